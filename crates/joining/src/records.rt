@@ -43,8 +43,8 @@ impl Records {
         ensures made { λ r. ⌜ made r (λ t. spec.Fresh modules limit t) ⌝ }
         ensures examples { λ _. ⌜ Examples ⌝ }
     {
-        let extents = vec![in heap; Extent::Paths; modules]?;
         let rows = Vec::with_capacity(heap, limit)?;
+        let extents = vec![in heap; Extent::Paths; modules]?;
         Ok(Records { extents, rows, limit })
     }
 
