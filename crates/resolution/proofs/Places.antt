@@ -2,11 +2,12 @@
 use mathlib.Core.Path.{_≡_, refl, sym, ap, _∙_}
 use mathlib.Core.Bool.{Bool, true, false, cond, _||_}
 use mathlib.Core.List.{List, [], _∷_}
+use mathlib.Core.Logic.{_⊎_, inl, inr}
 use Prim.Native.Nat.{ℕ, zero, suc, _+_, _≤_, _<_}
 use native.Mathlib.Numerals.{add-one}
 use native.Mathlib.Omega.{arith}
 use lib.ListN.{length, drop}
-use Rattle.std.proofs.shelf.Tests.{false≢true}
+use Rattle.std.proofs.shelf.Tests.{false≢true, cases-eq}
 use Rattle.std.specs.Options.{isSome, mapped}
 use Rattle.std.specs.declared.option.Option.{Option}
 use Rattle.std.specs.declared.option.Option.the-variants.{None, Some}
@@ -22,3 +23,6 @@ pub nth-none : {X : Type 0} (xs : List X) (i : ℕ) → nth xs i ≡ None → le
 nth-none [] i h = omega arith
 nth-none (y ∷ xs) zero h = absurd (false≢true (sym (ap isSome h)))
 nth-none (y ∷ xs) (suc i) h = let k = nth-none xs i h in omega arith
+
+pub before-or-at : (place i : ℕ) → i < place + 1 → (i < place) ⊎ (i ≡ place)
+before-or-at place i h = elim (cases-eq i place) [ inl e ↦ inr e | inr other ↦ inl (omega arith) ]

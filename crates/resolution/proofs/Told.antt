@@ -21,3 +21,7 @@ export-count None i e = absurd (true≢false (sym (ap isSome e)))
 export-count (Some s) i e =
     let is : told-symbol s ≡ i = cc in
     ap (λ x. x .exports) (sym is)
+
+pub nothing-told : (o : Option Module) → mapped told-module o ≡ None → length (within (λ x. x .re-export-alls) o) ≡ 0
+nothing-told None e = refl
+nothing-told (Some m) e = absurd (true≢false (ap isSome e))

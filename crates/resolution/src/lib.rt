@@ -1,6 +1,11 @@
 // What follows from any host: where a specifier leads, which module stands for another, and who offers a name.
+mod marks;
+mod offers;
+mod refusals;
 mod targets;
+mod walks;
 
+pub use refusals::Refusal;
 pub use targets::exports;
 pub use targets::standing_module;
 pub use targets::target;

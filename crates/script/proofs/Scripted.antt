@@ -94,21 +94,28 @@ asks-kept : (ts us : List Text) (w : Text) (r : Request) → Extends ts us → A
 asks-kept ts us w Star ext h = h
 asks-kept ts us w Full ext h = h
 asks-kept ts us w (Ask p) ext (spells, star, full) =
-    let same = texts-kept ts us (names-of p) ext (spells .known) in
-    (record {
-      known = known-kept ts us (names-of p) ext (spells .known);
-      pieces = rw same (spells .pieces);
-      solid = rw same (spells .solid);
-    }, star, full)
+    let same = texts-kept ts us (names-of p) ext (spells .known) in (
+      record {
+        known = known-kept ts us (names-of p) ext (spells .known);
+        pieces = rw same (spells .pieces);
+        solid = rw same (spells .solid);
+      },
+      star,
+      full,
+    )
 
 row-kept : (mods mods′ names names′ : List Text) (k : ℕ) (l : Text) (out : List Line) → Extends mods mods′ → Extends names names′ → RowLines mods names k l out → RowLines mods′ names′ k l out
 row-kept mods mods′ names names′ k l [] more yet h = h
-row-kept mods mods′ names names′ k l (x ∷ []) more yet (m, w, says, tells) =
-    (m, w, says, record {
-      number = tells .number;
-      placed = numbered-kept mods mods′ m (x .«module» .0) more (tells .placed);
-      asks = asks-kept names names′ w (x .request) yet (tells .asks);
-    })
+row-kept mods mods′ names names′ k l (x ∷ []) more yet (m, w, says, tells) = (
+  m,
+  w,
+  says,
+  record {
+    number = tells .number;
+    placed = numbered-kept mods mods′ m (x .«module» .0) more (tells .placed);
+    asks = asks-kept names names′ w (x .request) yet (tells .asks);
+  },
+)
 row-kept mods mods′ names names′ k l (x ∷ y ∷ ys) more yet h = h
 
 rows-kept : (mods mods′ names names′ : List Text) (k : ℕ) (ls : List Text) (xs : List Line) → Extends mods mods′ → Extends names names′ → Rows mods names k ls xs → Rows mods′ names′ k ls xs

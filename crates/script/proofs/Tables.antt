@@ -7,17 +7,17 @@ use Prim.Native.Nat.{ℕ, _+_, _<_, _≤_}
 use lib.ListN.{length, getD}
 use native.Mathlib.Omega.{arith}
 use Rattle.std.specs.declared.string.String.{String}
+use Rattle.std.specs.declared.vec.Vec.{Vec}
 use Rattle.std.specs.Of.String.{string-bytes}
 use Rattle.std.specs.Of.Vec.{vec-len}
 use Rattle.std.proofs.shelf.Lists.{getD-map, map-push, length-map, length-push, getD-push, getD-append-left}
 use Rattle.std.proofs.shelf.Tests.{cases-lt}
-use Rattle.script.specs.Texts.{Text, text-at, Alike, Distinct, Lacking}
-use Rattle.script.specs.Interned.{texts, Numbered}
-use Rattle.script.specs.declared.interner_struct.Names.{Names}
+use Rattle.script.specs.Texts.{Text, texts-in, text-at, Alike, Distinct, Lacking}
+use Rattle.script.specs.Interned.{Numbered}
 
--- how many texts a table has
-pub count : (names : Names) → length (texts names) ≡ vec-len (names .items)
-count names = length-map (names .items .items) string-bytes ∙ sym (names .items .ok .0)
+-- there are as many texts as strings
+pub texts-counted : {Y Z : Type 0} (v : Vec (String Y) Z) → length (texts-in v) ≡ vec-len v
+texts-counted v = length-map (v .items) string-bytes ∙ sym (v .ok .0)
 
 -- the text at the number of an element is that element's
 pub read-text : {Y : Type 0} (ss : List (String Y)) (i : ℕ) (s : String Y) → i < length ss → s ≡ getD ss i s → text-at (map string-bytes ss) i ≡ string-bytes s
@@ -36,13 +36,13 @@ distinct-push ts t old lacks i j (low, high, same) =
     let at-end = λ (k : ℕ) (h : length ts ≡ k). getD-push ts t [] k h in
     ⊎-elim
     (λ (il : i < length ts). ⊎-elim
-      (λ (jl : j < length ts). old i j (il, jl, sym (at-left i il) ∙ same ∙ at-left j jl))
-      (λ (jr : length ts ≤ j). absurd (lacks i il (sym (at-left i il) ∙ same ∙ at-end j (omega arith))))
-      (cases-lt j (length ts)))
+    (λ (jl : j < length ts). old i j (il, jl, sym (at-left i il) ∙ same ∙ at-left j jl))
+    (λ (jr : length ts ≤ j). absurd (lacks i il (sym (at-left i il) ∙ same ∙ at-end j (omega arith))))
+    (cases-lt j (length ts)))
     (λ (ir : length ts ≤ i). ⊎-elim
-      (λ (jl : j < length ts). absurd (lacks j jl (sym (at-left j jl) ∙ sym same ∙ at-end i (omega arith))))
-      (λ (jr : length ts ≤ j). omega arith)
-      (cases-lt j (length ts)))
+    (λ (jl : j < length ts). absurd (lacks j jl (sym (at-left j jl) ∙ sym same ∙ at-end i (omega arith))))
+    (λ (jr : length ts ≤ j). omega arith)
+    (cases-lt j (length ts)))
     (cases-lt i (length ts))
 
 pub distinct-pushed : (b : Bool) (ts us : List Text) (t : Text) → us ≡ cond b (ts ++ t ∷ []) ts → Distinct ts → Lacking ts t → Distinct us

@@ -25,9 +25,9 @@ pub white-small : (b : ℕ) → asciiWhite b ≡ true → b < 128
 white-small b h =
     ⊎-elim
     (λ (front : (within 9 10 b || within 12 13 b) ≡ true). ⊎-elim
-      (λ (low : within 9 10 b ≡ true). omega (arith, leb-true b 10 (and-parts (leb 9 b) (leb b 10) low .1)))
-      (λ (high : within 12 13 b ≡ true). omega (arith, leb-true b 13 (and-parts (leb 12 b) (leb b 13) high .1)))
-      (or-cases (within 9 10 b) (within 12 13 b) front))
+    (λ (low : within 9 10 b ≡ true). omega (arith, leb-true b 10 (and-parts (leb 9 b) (leb b 10) low .1)))
+    (λ (high : within 12 13 b ≡ true). omega (arith, leb-true b 13 (and-parts (leb 12 b) (leb b 13) high .1)))
+    (or-cases (within 9 10 b) (within 12 13 b) front))
     (λ (space : within 32 32 b ≡ true). omega (arith, leb-true b 32 (and-parts (leb 32 b) (leb b 32) space .1)))
     (or-cases (within 9 10 b || within 12 13 b) (within 32 32 b) h)
 
@@ -39,14 +39,14 @@ Trimmed bs t = (n : ℕ) × (t ≡ drop n bs) × (length t + n ≡ length bs) ×
 blank-front : (bs : Text) (n : ℕ) → n ≤ length bs → ((i : ℕ) → i < n → asciiWhite (getD bs i 0) ≡ true) → Blank (take n bs)
 blank-front bs n h white =
     all-from-getD _ (take n bs) 0 (λ i low.
-      let inside : i < n = omega (arith, length-take-le n bs h) in
-      ap asciiWhite (getD-take n bs i 0 inside) ∙ white i inside)
+    let inside : i < n = omega (arith, length-take-le n bs h) in
+    ap asciiWhite (getD-take n bs i 0 inside) ∙ white i inside)
 
 solid-front : (bs : Text) (n : ℕ) → n ≤ length bs → ((i : ℕ) → i < n → asciiWhite (getD bs i 0) ≡ false) → Solid (take n bs)
 solid-front bs n h dark =
     all-from-getD _ (take n bs) 0 (λ i low.
-      let inside : i < n = omega (arith, length-take-le n bs h) in
-      ap asciiWhite (getD-take n bs i 0 inside) ∙ dark i inside)
+    let inside : i < n = omega (arith, length-take-le n bs h) in
+    ap asciiWhite (getD-take n bs i 0 inside) ∙ dark i inside)
 
 -- where nothing is left, there was nothing but white space
 pub all-blank : (bs t : Text) → Trimmed bs t → length t ≡ 0 → Blank bs

@@ -39,7 +39,7 @@ pub enum Fault {
 }
 
 // Why a word is not read: the caller knows the word and its line.
-#[derive(Clone, Copy, PartialEq, Eq, Debug)]
+#[derive(Clone, Copy)]
 pub(crate) enum Unread {
     Of(Problem),
     NoMemory,
@@ -61,14 +61,6 @@ pub impl<T: Drop> From<Refused<T>> for Unread as UnreadFromRefused {
     }
 }
 
-pub impl From<AllocError> for Fault as FaultFromAllocError {
-    ghost converts = { λ _ f. f ≡ NoMemory };
-
-    fn from(_error: AllocError) -> Fault {
-        Fault::NoMemory
-    }
-}
-
 pub impl<T: Drop> From<Refused<T>> for Fault as FaultFromRefused {
     ghost converts = { λ _ f. f ≡ NoMemory };
 
@@ -77,24 +69,44 @@ pub impl<T: Drop> From<Refused<T>> for Fault as FaultFromRefused {
     }
 }
 
+// What was expected in place of a problem at a word, and what was found.
+impl Problem {
+    fn describe<W: fmt::Write>(self, word: &str, f: &mut fmt::Formatter<W>) -> fmt::Result {
+        match self {
+            Problem::NoRequest => { write!(f, "a request after the module, found only \"{word}\"") }
+            Problem::TooManyWords => {
+                write!(f, "a module and a request, found \"{word}\" after them")
+            }
+            Problem::EmptyName => {
+                write!(f, "a name on each side of a dot, found none in \"{word}\"")
+            }
+            Problem::TooManyNames(count) => {
+                write!(f, "a path of at most {PATH_LIMIT} names, found {count} in \"{word}\"")
+            }
+            Problem::TooManyModules => {
+                write!(f, "at most {MODULE_LIMIT} modules, found one more, \"{word}\"")
+            }
+            Problem::TooManyDistinctNames => {
+                write!(
+                    f,
+                    "at most {NAME_LIMIT} different names, found one more in \"{word}\""
+                )
+            }
+        }
+    }
+}
+
 // One line of help: where, what was expected, and what was found.
 pub impl fmt::Display for Fault as FaultDisplay {
     fn fmt<W: fmt::Write>(&self, f: &mut fmt::Formatter<W>) -> fmt::Result {
         match self {
-            Fault::Line { number, problem, word } => {
+            Fault::Line {
+                number,
+                problem,
+                word,
+            } => {
                 write!(f, "line {number}: expected ")?;
-                match problem {
-                    Problem::NoRequest => write!(f, "a request after the module, found only \"{word}\""),
-                    Problem::TooManyWords => write!(f, "a module and a request, found \"{word}\" after them"),
-                    Problem::EmptyName => write!(f, "a name on each side of a dot, found none in \"{word}\""),
-                    Problem::TooManyNames(count) => {
-                        write!(f, "a path of at most {PATH_LIMIT} names, found {count} in \"{word}\"")
-                    }
-                    Problem::TooManyModules => write!(f, "at most {MODULE_LIMIT} modules, found one more, \"{word}\""),
-                    Problem::TooManyDistinctNames => {
-                        write!(f, "at most {NAME_LIMIT} different names, found one more in \"{word}\"")
-                    }
-                }
+                problem.describe(word.as_str(), f)
             }
             Fault::NoMemory => f.write_str("out of memory"),
         }

@@ -1,7 +1,6 @@
 // Texts become numbers.
 ghost use mathlib.Core.Path.{_≡_};
 ghost use mathlib.Core.List.{[]};
-ghost use Prim.Native.Nat.{_≤_, _<_};
 ghost use lib.ListN.{length};
 ghost use Rattle.script.specs.declared.interner.InternError.the-variants.{NoMemory};
 ghost use Rattle.script.specs.Interned.{texts, Found, Told, Interned, Started};
@@ -40,7 +39,10 @@ impl Names {
         ensures texts { λ r. ⌜ texts r ≡ [] ⌝ }
         ensures limit { λ r. ⌜ r .limit ≡ limit ⌝ }
     {
-        Names { items: Vec::new(heap), limit }
+        Names {
+            items: Vec::new(heap),
+            limit,
+        }
     }
 
     // A table of names of declarations: `default` has number 0, and `prototype` number 1.
@@ -77,11 +79,10 @@ impl Names {
     pub fn text(&self, number: u32) -> Option<&str>
         ensures { λ r. ⌜ Told (texts (now (self .entry))) number r ⌝ }
     {
-        if number < self.len() {
-            Some(self.items[number as usize].as_str())
-        } else {
-            None
+        if number >= self.len() {
+            return None;
         }
+        Some(self.items[number as usize].as_str())
     }
 
     // The number of a text, which is put last if it is not there.

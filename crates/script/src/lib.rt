@@ -11,7 +11,6 @@ mod words;
 pub use faults::Fault;
 pub use faults::FaultDebug;
 pub use faults::FaultDisplay;
-pub use faults::FaultFromAllocError;
 pub use faults::FaultFromRefused;
 pub use faults::Problem;
 pub use faults::ProblemDebug;

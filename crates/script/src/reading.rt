@@ -3,7 +3,6 @@ ghost use Rattle.script.specs.Faults.{ModuleNamed, Placed};
 ghost use Rattle.script.specs.Interned.{texts};
 ghost use Rattle.script.specs.Scripts.{Asked, LineAdded, Read, Begun};
 use crate::faults::Fault;
-use crate::faults::FaultFromAllocError;
 use crate::faults::FaultFromRefused;
 use crate::faults::Problem;
 use crate::faults::Unread;
@@ -17,8 +16,10 @@ use crate::words::row_of;
 use ids::ModuleId;
 use std::alloc::Global;
 
-// The most modules, and the most names of declarations.
+// The most modules.
 pub const MODULE_LIMIT: u32 = 1024;
+
+// The most names of declarations.
 pub const NAME_LIMIT: u32 = 65535;
 
 impl Unread {
@@ -30,12 +31,17 @@ impl Unread {
             return Fault::NoMemory;
         };
         match String::from_str(heap, word) {
-            Ok(word) => Fault::Line { number, problem, word },
+            Ok(word) => Fault::Line {
+                number,
+                problem,
+                word,
+            },
             Err(_) => Fault::NoMemory,
         }
     }
 }
 
+// The number of a module.
 fn module_number(modules: &mut Names, text: &str) -> Result<ModuleId, Unread>
     ensures { λ r. ⌜ ModuleNamed (texts (now (modules .entry))) (now (text .entry)) (texts (now (modules .exit))) r ⌝ }
 {
@@ -52,7 +58,11 @@ impl Requests {
         ensures { λ r. ⌜ Begun r ⌝ }
     {
         match Names::of_declarations(heap, NAME_LIMIT) {
-            Ok(names) => Ok(Requests { modules: Names::new(heap, MODULE_LIMIT), names, lines: Vec::new(heap) }),
+            Ok(names) => Ok(Requests {
+                modules: Names::new(heap, MODULE_LIMIT),
+                names,
+                lines: Vec::new(heap),
+            }),
             Err(_) => Err(Fault::NoMemory),
         }
     }
@@ -69,7 +79,12 @@ impl Requests {
             Ok(request) => request,
             Err(unread) => return Err(unread.at(heap, number, word)),
         };
-        self.lines.push(Line { number, module, request })?;
+        let line = Line {
+            number,
+            module,
+            request,
+        };
+        self.lines.push(line)?;
         Ok(())
     }
 

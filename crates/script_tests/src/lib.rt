@@ -36,7 +36,13 @@ mod tests {
     fn problem(heap: Global, text: &str) -> Result<(usize, Problem), Fail> {
         match read(heap, text) {
             Ok(_) => Err(Fail::new("no fault")),
-            Err(Fault::Line { number, problem, word: _ }) => Ok((number, problem)),
+            Err(
+                Fault::Line {
+                    number,
+                    problem,
+                    word: _,
+                },
+            ) => Ok((number, problem)),
             Err(Fault::NoMemory) => Err(Fail::new("no memory")),
         }
     }
@@ -87,14 +93,20 @@ mod tests {
         check_eq(problem(heap, "m a.")?, (1, Problem::EmptyName))?;
         check_eq(problem(heap, "m .")?, (1, Problem::EmptyName))?;
         check_eq(problem(heap, "m ..a")?, (1, Problem::EmptyName))?;
-        check_eq(problem(heap, "m a.b.c.d.e.f.g.h.i")?, (1, Problem::TooManyNames(9)))
+        check_eq(
+            problem(heap, "m a.b.c.d.e.f.g.h.i")?,
+            (1, Problem::TooManyNames(9)),
+        )
     }
 
     #[test]
     fn says_what_it_expected(rt: LibcRuntime) -> Result<(), Fail> {
         let heap = rt.alloc();
         let long = message(heap, "\n\n\nm .a.b.c.d.e.f.g.h.i")?;
-        check(long.as_str() == "line 4: expected a path of at most 8 names, found 9 in \".a.b.c.d.e.f.g.h.i\"")?;
+        check(
+            long.as_str()
+                == "line 4: expected a path of at most 8 names, found 9 in \".a.b.c.d.e.f.g.h.i\"",
+        )?;
         let short = message(heap, "m")?;
         check(short.as_str() == "line 1: expected a request after the module, found only \"m\"")
     }
@@ -109,7 +121,10 @@ mod tests {
         let requests = read(heap, text.as_str())?;
         check_eq(requests.modules.len(), 1024)?;
         text.push_str("m1023 full\nlast full\n")?;
-        check_eq(problem(heap, text.as_str())?, (1026, Problem::TooManyModules))
+        check_eq(
+            problem(heap, text.as_str())?,
+            (1026, Problem::TooManyModules),
+        )
     }
 
     #[test]

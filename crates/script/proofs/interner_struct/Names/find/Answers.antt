@@ -21,9 +21,6 @@ compared c =
     let inside : number < length (c .args .self .now .items .items) = omega (arith, ap length same, c .loop-number-test .taken) in
     read-text _ number item inside (c .index-items-number .is ∙ ap (λ xs. getD xs number item) same) ∙ sym (c .as-str .ensures .value)
 
-pub cast-result : need.cast-result
-cast-result c = let names = c .args .self .now in omega (arith, names .few, names .small, c .as-slice-items .ensures .len, c .loop-number-test .taken)
-
 pub returns-then-eq : need.returns-then-eq
 returns-then-eq c =
     let names = c .args .self .now in
@@ -36,8 +33,3 @@ pub loop-number-again : need.loop-number-again
 loop-number-again c =
     below-more _ _ (c .loop-number .inv)
     (λ e. let ne = c .eq .ensures .1 (sym (compared (need.at·loop-number-again c .After-eq)) ∙ e) in both-ways _ (c .if-eq .left) ne)
-
-pub returns : need.returns
-returns c i h =
-    let names = c .args .self .now in
-    c .loop-number .inv i (omega (arith, length-map (names .items .items) string-bytes, ap length (c .as-slice-items .ensures .value), c .loop-number-test .left))

@@ -9,7 +9,7 @@ use Rattle.std.specs.Of.String.{string-bytes}
 use Rattle.std.specs.Results.{isOk}
 use Rattle.script.specs.Texts.{texts-in, Lacking}
 use Rattle.script.specs.Interned.{texts, Found}
-use Rattle.script.proofs.Tables.{count, pushed-text, distinct-pushed, numbered-last, full-at-most}
+use Rattle.script.proofs.Tables.{texts-counted, pushed-text, distinct-pushed, numbered-last, full-at-most}
 use Rattle.script.proofs.interner_struct.Names.intern.Needs as need
 use Rattle.script.proofs.interner_struct.Names.intern.Needs.{After-push}
 
@@ -23,7 +23,7 @@ lacked c = c .in-rest .ensures tt
 pub ghost-self : need.ghost-self
 ghost-self c =
     let names = c .args .self .now in
-    (names .small, (full-at-most _ _ _ _ (c .push .ensures .len) (names .few) (λ e. c .if-number-self .left (c .len-number .ensures ∙ count names ∙ e)), (distinct-pushed _ _ _ _ (grown c) (names .distinct) (lacked c), tt)))
+    (names .small, (full-at-most _ _ _ _ (c .push .ensures .len) (names .few) (λ e. c .if-number-self .left (c .len-number .ensures ∙ names .count ∙ e)), (texts-counted (c .push .last .self), (distinct-pushed _ _ _ _ (grown c) (names .distinct) (lacked c), tt))))
 
 pub returns : need.returns
 returns c =

@@ -1,0 +1,35 @@
+-- Which modules offer a name. Assumes nothing.
+use mathlib.Core.Path.{_≡_}
+use mathlib.Core.Bool.{true}
+use Prim.Native.Nat.{ℕ, _<_}
+use Rattle.std.specs.declared.option.Option.{Option}
+use Rattle.std.specs.declared.option.Option.the-variants.{None, Some}
+use Rattle.ids.specs.declared.numbers.ModuleId.{ModuleId}
+use Rattle.ids.specs.declared.numbers.NameId.{NameId}
+use Rattle.host.specs.Lookups.{re-export-all-at}
+use Rattle.host.specs.Program.{Program}
+use Rattle.host.specs.declared.told.ReExportAll.{ReExportAll}
+use Rattle.resolution.specs.Targets.{target, stands, exports}
+
+-- the export-all of x at place i leads to y
+pub record Leads (p : Program) (x : ModuleId) (i : ℕ) (y : ModuleId) : Type 0 where
+  pub re-export-all : ReExportAll
+  pub there : re-export-all-at p x i ≡ Some re-export-all
+  pub leads : target p x (re-export-all .specifier) ≡ Some y
+
+-- x offers f: it exports f itself, or one of its export-alls passes f on. `default` is never passed on
+pub data Offers (p : Program) (f : NameId) : ModuleId → Type 0 where
+  own : {x : ModuleId} → exports p x f ≡ true → Offers p f x
+  passed : {x y : ModuleId} {i : ℕ} → (f .0 ≡ 0 → ⊥) → Leads p x i y → Offers p f (stands p y) → Offers p f x
+
+-- the export-all of x at place i passes f on
+pub record Passes (p : Program) (f : NameId) (x : ModuleId) (i : ℕ) : Type 0 where
+  pub not-default : f .0 ≡ 0 → ⊥
+  pub to : ModuleId
+  pub leads : Leads p x i to
+  pub offers : Offers p f (stands p to)
+
+-- the place of the first export-all of x that passes f on
+abbrev pub First : Program → NameId → ModuleId → Option ℕ → Type 0
+First p f x (Some i) = Passes p f x i × ((j : ℕ) → j < i → Passes p f x j → ⊥)
+First p f x None = (j : ℕ) → Passes p f x j → ⊥
