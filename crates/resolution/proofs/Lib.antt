@@ -1,5 +1,6 @@
 pub mod Following
 pub mod Meeting
+pub mod OwnOrPassed
 pub mod Places
 pub mod Standing
 pub mod Told

@@ -7,7 +7,7 @@ use Rattle.resolution.specs.Marks.{undone}
 use Rattle.resolution.specs.Offers.{Leads, Passes}
 use Rattle.resolution.specs.Targets.{stands}
 use Rattle.resolution.specs.Walks.{Walked}
-use Rattle.resolution.proofs.offers.search.Given as given
+use Rattle.resolution.proofs.offering.search.Given as given
 
 abbrev pub Inv-loop-next : given.InvT-loop-next
 Inv-loop-next g l =

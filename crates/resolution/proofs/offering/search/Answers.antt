@@ -16,7 +16,7 @@ use Rattle.resolution.proofs.Following.{leads-same, leads-within}
 use Rattle.resolution.proofs.Places.{before-or-at}
 use Rattle.resolution.proofs.Told.{counts}
 use Rattle.resolution.proofs.Walking.{walk-begins, walk-finds, walk-goes-on, walk-ends}
-use Rattle.resolution.proofs.offers.search.Needs as need
+use Rattle.resolution.proofs.offering.search.Needs as need
 
 -- one place more passes nothing on
 no-more : (p : Program) (f : NameId) (m : ModuleId) (place : ℕ) → ((j : ℕ) → j < place → Passes p f m j → ⊥) → (Passes p f m place → ⊥) → (j : ℕ) → j < place + 1 → Passes p f m j → ⊥
