@@ -41,7 +41,10 @@ pub(crate) impl From<AllocError> for Failure as FailureFromAllocError {
 pub(crate) impl fmt::Display for Failure as FailureDisplay {
     fn fmt<W: fmt::Write>(&self, f: &mut fmt::Formatter<W>) -> fmt::Result {
         match self {
-            Failure::NoSuchTask(word) => write!(f, "expected no argument or --help, found \"{word}\"; --help says more"),
+            Failure::NoSuchTask(word) => write!(
+                f,
+                "expected no argument or --help, found \"{word}\"; --help says more"
+            ),
             Failure::Io(error) => write!(f, "{error}"),
             Failure::Unread(fault) => write!(f, "{fault}"),
             Failure::Refused(line, refusal) => {
@@ -49,7 +52,10 @@ pub(crate) impl fmt::Display for Failure as FailureDisplay {
                 write!(f, "line {line}: refused with {number}: ")?;
                 match refusal {
                     Refusal::NoSuchModule => f.write_str("the module is past the last one"),
-                    Refusal::NoFreeRow => write!(f, "no row is free, and at most {ROWS} paths are kept"),
+                    Refusal::NoFreeRow => write!(
+                        f,
+                        "no row is free, and at most {ROWS} paths are kept"
+                    ),
                 }
             }
             Failure::NoMemory => f.write_str("out of memory"),

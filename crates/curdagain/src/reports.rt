@@ -138,6 +138,9 @@ mod tests {
             text.push_str(format!(heap, "m n{number}\n")?.as_str())?;
         }
         let told = told(heap, text.as_str())?;
-        check(told.as_str() == "line 1025: refused with 9: no row is free, and at most 1024 paths are kept")
+        check(
+            told.as_str()
+                == "line 1025: refused with 9: no row is free, and at most 1024 paths are kept",
+        )
     }
 }

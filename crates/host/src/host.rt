@@ -67,6 +67,12 @@ pub trait Host {
         ensures { λ r. ⌜ r ≡ mapped told-decl (at.decl-at (program (now (self .entry))) «module» symbol place) ⌝ };
 
     // A reference of the definition at a place.
-    fn dep(&self, module: ModuleId, symbol: SymbolId, decl: usize, place: usize) -> Option<SymbolNodeDep>
+    fn dep(
+        &self,
+        module: ModuleId,
+        symbol: SymbolId,
+        decl: usize,
+        place: usize,
+    ) -> Option<SymbolNodeDep>
         ensures { λ r. ⌜ r ≡ at.dep-at (program (now (self .entry))) «module» symbol decl place ⌝ };
 }

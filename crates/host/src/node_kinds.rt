@@ -43,13 +43,46 @@ pub enum NodeKind {
 }
 
 const VALUE: (bool, bool) = (true, false);
+
 const TYPE: (bool, bool) = (false, true);
+
 const BOTH: (bool, bool) = (true, true);
 
 // Whether a node of each kind is a value, and whether it is a type.
 const NAMESPACES: [(bool, bool); 33] = [
-    BOTH, VALUE, BOTH, VALUE, BOTH, TYPE, BOTH, TYPE, VALUE, VALUE, BOTH, BOTH, BOTH, BOTH, BOTH, VALUE, BOTH, BOTH,
-    BOTH, BOTH, BOTH, BOTH, BOTH, BOTH, VALUE, VALUE, BOTH, TYPE, BOTH, TYPE, VALUE, TYPE, BOTH,
+    BOTH,
+    VALUE,
+    BOTH,
+    VALUE,
+    BOTH,
+    TYPE,
+    BOTH,
+    TYPE,
+    VALUE,
+    VALUE,
+    BOTH,
+    BOTH,
+    BOTH,
+    BOTH,
+    BOTH,
+    VALUE,
+    BOTH,
+    BOTH,
+    BOTH,
+    BOTH,
+    BOTH,
+    BOTH,
+    BOTH,
+    BOTH,
+    VALUE,
+    VALUE,
+    BOTH,
+    TYPE,
+    BOTH,
+    TYPE,
+    VALUE,
+    TYPE,
+    BOTH,
 ];
 
 impl NodeKind {

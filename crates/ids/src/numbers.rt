@@ -15,5 +15,6 @@ pub struct NameId(pub u32);
 
 impl NameId {
     pub const DEFAULT: NameId = NameId(0);
+
     pub const PROTOTYPE: NameId = NameId(1);
 }

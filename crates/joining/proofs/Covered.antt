@@ -84,24 +84,24 @@ pub some-chain : (ps : List Path) (p q : List NameId) → some-covers ps p ≡ t
 some-chain [] p q h k = h
 some-chain (s ∷ ps) p q h k =
     elim (or-cases (covers (names-of s) p) (some-covers ps p) h) [
-      inl a ↦ or-left (covers (names-of s) q) (some-covers ps q) (covers-chain (names-of s) p q a k)
-    | inr b ↦ or-right (covers (names-of s) q) (some-covers ps q) (some-chain ps p q b k)
+      | inl a ↦ or-left (covers (names-of s) q) (some-covers ps q) (covers-chain (names-of s) p q a k)
+      | inr b ↦ or-right (covers (names-of s) q) (some-covers ps q) (some-chain ps p q b k)
     ]
 
 pub some-default : (ps : List Path) (q : List NameId) → some-covers ps q ≡ true → of-default q ≡ true → some-of-default ps ≡ true
 some-default [] q h d = h
 some-default (s ∷ ps) q h d =
     elim (or-cases (covers (names-of s) q) (some-covers ps q) h) [
-      inl a ↦ or-left (of-default (names-of s)) (some-of-default ps) (sym (path-begins s q a) ∙ d)
-    | inr b ↦ or-right (of-default (names-of s)) (some-of-default ps) (some-default ps q b d)
+      | inl a ↦ or-left (of-default (names-of s)) (some-of-default ps) (sym (path-begins s q a) ∙ d)
+      | inr b ↦ or-right (of-default (names-of s)) (some-of-default ps) (some-default ps q b d)
     ]
 
 pub some-above-default : (ps : List Path) (q : List NameId) → some-covers ps default-names ≡ true → of-default q ≡ true → some-covers ps q ≡ true
 some-above-default [] q h d = h
 some-above-default (s ∷ ps) q h d =
     elim (or-cases (covers (names-of s) default-names) (some-covers ps default-names) h) [
-      inl a ↦ or-left (covers (names-of s) q) (some-covers ps q) (above-default (names-of s) q (path-some s) a d)
-    | inr b ↦ or-right (covers (names-of s) q) (some-covers ps q) (some-above-default ps q b d)
+      | inl a ↦ or-left (covers (names-of s) q) (some-covers ps q) (above-default (names-of s) q (path-some s) a d)
+      | inr b ↦ or-right (covers (names-of s) q) (some-covers ps q) (some-above-default ps q b d)
     ]
 
 or-assoc : (a b c : Bool) → ((a || b) || c) ≡ (a || (b || c))

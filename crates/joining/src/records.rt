@@ -45,7 +45,11 @@ impl Records {
     {
         let rows = Vec::with_capacity(heap, limit)?;
         let extents = vec![in heap; Extent::Paths; modules]?;
-        Ok(Records { extents, rows, limit })
+        Ok(Records {
+            extents,
+            rows,
+            limit,
+        })
     }
 
     // How many modules the table has records for.
@@ -118,7 +122,10 @@ impl Records {
     fn shape(&self, module: ModuleId) -> Extent
         ensures { λ r. ⌜ r ≡ spec.extent-of (now (self .entry)) «module» ⌝ }
     {
-        self.extents.get(module.0 as usize).copied().unwrap_or(Extent::Paths)
+        self.extents
+            .get(module.0 as usize)
+            .copied()
+            .unwrap_or(Extent::Paths)
     }
 
     // Whether there is such a module, and so many rows are free.

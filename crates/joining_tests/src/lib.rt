@@ -21,10 +21,15 @@ mod tests {
     use std::test::*;
 
     const DOUGH: ModuleId = ModuleId(0);
+
     const OVEN: ModuleId = ModuleId(1);
+
     const NONE: ModuleId = ModuleId(2);
+
     const FLOUR: NameId = NameId(2);
+
     const SCALE: NameId = NameId(3);
+
     const WATER: NameId = NameId(4);
 
     fn one(name: NameId) -> Request {
@@ -91,7 +96,9 @@ mod tests {
         t.join(OVEN, one(WATER))?;
         check_eq(t.free(), 0)?;
         check_eq(t.join(DOUGH, one(WATER)), Err(Refusal::NoFreeRow))?;
-        check_eq(t.join(DOUGH, one(FLOUR)), Err(Refusal::NoFreeRow)).note("known, and refused all the same")?;
+        check_eq(t.join(DOUGH, one(FLOUR)), Err(Refusal::NoFreeRow)).note(
+            "known, and refused all the same",
+        )?;
         check_eq(t.rows().len(), 2)?;
         check_eq(t.join(DOUGH, Request::Star)?, Some(Request::Star)).note("star wants no row")?;
         check_eq(t.free(), 1)?;
@@ -119,7 +126,9 @@ mod tests {
         held.join(DOUGH, one(WATER))?;
         let mut t = Records::new(heap, 2, 2)?;
         t.join(DOUGH, two(WATER, SCALE)?)?;
-        check_eq(t.join_record(DOUGH, &held), Err(Refusal::NoFreeRow)).note("one free row, and two wanted")?;
+        check_eq(t.join_record(DOUGH, &held), Err(Refusal::NoFreeRow)).note(
+            "one free row, and two wanted",
+        )?;
         check_eq(t.kept(DOUGH), 1)?;
         t.clear(DOUGH)?;
         check_eq(t.free(), 2)?;

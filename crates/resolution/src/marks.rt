@@ -7,7 +7,9 @@ ghost use Rattle.resolution.specs.Marks as spec;
 use ids::ModuleId;
 
 const UNMET: u8 = 0;
+
 const WAITING: u8 = 1;
+
 const DONE: u8 = 2;
 
 // The marks of a walk. Whichever way the walk ends, its bytes are blank again.

@@ -64,7 +64,12 @@ fn search<H: Host>(host: &H, sheet: &mut [u8], module: ModuleId, name: NameId) -
 }
 
 // The same, with a guard over the marks: they are blank again when the search ends, found or not found.
-fn blanking_search<H: Host>(host: &H, sheet: &mut [u8], module: ModuleId, name: NameId) -> Option<usize>
+fn blanking_search<H: Host>(
+    host: &H,
+    sheet: &mut [u8],
+    module: ModuleId,
+    name: NameId,
+) -> Option<usize>
     requires long { ⌜ length (now sheet) ≡ length (program (now host) .modules) ⌝ }
     requires small { ⌜ length (now sheet) < 2 ^ 32 ⌝ }
     ensures first { λ r. ⌜ spec.First (program (now (host .entry))) name «module» r ⌝ }
@@ -92,7 +97,12 @@ pub fn first_offer<H: Host>(
 }
 
 // Whether a module offers a name: the module that stands for it exports the name or has it passed on.
-pub fn offers<H: Host>(host: &H, sheet: &mut [u8], module: ModuleId, name: NameId) -> Result<bool, Refusal>
+pub fn offers<H: Host>(
+    host: &H,
+    sheet: &mut [u8],
+    module: ModuleId,
+    name: NameId,
+) -> Result<bool, Refusal>
     ensures { λ r. ⌜ spec.Searched (program (now (host .entry))) (λ b. Decides b (spec.Offers (program (now (host .entry))) name (stands (program (now (host .entry))) «module»))) (now (sheet .entry)) (now (sheet .exit)) r ⌝ }
 {
     let standing = standing_module(host, module);

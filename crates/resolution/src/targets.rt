@@ -85,7 +85,11 @@ fn entered<H: Host>(host: &H, module: ModuleId) -> Option<ModuleId>
     ensures { λ r. ⌜ r ≡ spec.entered (program (now (host .entry))) (spec.types-of (module-at (program (now (host .entry))) «module»)) ⌝ }
 {
     let types = types(host, module)?;
-    if is_inside(kind(host, types)) { Some(types) } else { None }
+    if is_inside(kind(host, types)) {
+        Some(types)
+    } else {
+        None
+    }
 }
 
 // The module that stands for another: from types module to types module, eight times at the most.

@@ -81,10 +81,16 @@ impl Problem {
                 write!(f, "a name on each side of a dot, found none in \"{word}\"")
             }
             Problem::TooManyNames(count) => {
-                write!(f, "a path of at most {PATH_LIMIT} names, found {count} in \"{word}\"")
+                write!(
+                    f,
+                    "a path of at most {PATH_LIMIT} names, found {count} in \"{word}\""
+                )
             }
             Problem::TooManyModules => {
-                write!(f, "at most {MODULE_LIMIT} modules, found one more, \"{word}\"")
+                write!(
+                    f,
+                    "at most {MODULE_LIMIT} modules, found one more, \"{word}\""
+                )
             }
             Problem::TooManyDistinctNames => {
                 write!(

@@ -16,14 +16,14 @@ loop-row-again c =
     let row = c .row-item .result in
     let more = length-more m (c .args .rows .now) (c .loop-row .row-index) row (c .loop-row-test .taken) (c .row-item .is) in
     elim (c .if-eq .came) [
-      then-eq w ↦
-        let here : of-module m row ≡ true = eq-eqb _ _ (c .eq .ensures .0 (w .if-eq .taken)) in
-        let one = rw here at more in
-        (omega (arith, one, w .n-is, c .loop-row .inv .0), omega (arith, w .n-is))
-    | else-eq w ↦
-        let here : of-module m row ≡ false = ne-eqb _ _ (λ e. true≢false (sym (c .eq .ensures .1 e) ∙ w .if-eq .left)) in
-        let one = rw here at more in
-        (omega (arith, one, w .n-is, c .loop-row .inv .0), omega (arith, w .n-is))
+      | then-eq w ↦
+          let here : of-module m row ≡ true = eq-eqb _ _ (c .eq .ensures .0 (w .if-eq .taken)) in
+          let one = rw here at more in
+          (omega (arith, one, w .n-is, c .loop-row .inv .0), omega (arith, w .n-is))
+      | else-eq w ↦
+          let here : of-module m row ≡ false = ne-eqb _ _ (λ e. true≢false (sym (c .eq .ensures .1 e) ∙ w .if-eq .left)) in
+          let one = rw here at more in
+          (omega (arith, one, w .n-is, c .loop-row .inv .0), omega (arith, w .n-is))
     ]
 
 pub returns : need.returns

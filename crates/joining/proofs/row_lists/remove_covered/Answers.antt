@@ -12,8 +12,8 @@ loop-i-again c =
     let inv = c .loop-i .inv in
     let within : c .loop-i .i < length (vec-items (c .loop-i .rows)) = omega (arith, inv .0 .long, c .args .rows .now .ok .0, c .len-i-end .ensures, c .loop-i-test .taken) in
     elim (c .if-stays .came) [
-      then-stays w ↦ rw (w .rows-is, w .len-is) (keeping-more-set (inv .0) within (sym (c .stays .ensures) ∙ w .if-stays .taken) (c .index .ensures), inv .1)
-    | else-stays w ↦ rw (w .rows-is, w .len-is) (keeping-more-no (inv .0) within (sym (c .stays .ensures) ∙ w .if-stays .left) (c .index .ensures), inv .1)
+      | then-stays w ↦ rw (w .rows-is, w .len-is) (keeping-more-set (inv .0) within (sym (c .stays .ensures) ∙ w .if-stays .taken) (c .index .ensures), inv .1)
+      | else-stays w ↦ rw (w .rows-is, w .len-is) (keeping-more-no (inv .0) within (sym (c .stays .ensures) ∙ w .if-stays .left) (c .index .ensures), inv .1)
     ]
 
 pub returns : need.returns

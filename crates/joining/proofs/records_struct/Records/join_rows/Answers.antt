@@ -36,15 +36,15 @@ loop-row-again c =
     let lengths = length-more m rows i row (c .loop-row-test .taken) (c .row-item .is) in
     let paths = paths-more m rows i row (c .loop-row-test .taken) (c .row-item .is) in
     elim (c .if-eq .came) [
-      then-eq w ↦
-        let here : of-module m row ≡ true = eq-eqb _ _ (c .eq .ensures .0 (w .if-eq .taken)) in
-        let change = w .join-admitted .ensures .changes in
-        let to : joined (record-of mid m) (Ask (row .path)) ≡ joined-paths (record-of t m) (paths-of m (take (i + 1) rows)) = ap (λ r. joined r (Ask (row .path))) (inv .0 .here) ∙ sym (joined-push (record-of t m) (paths-of m (take i rows)) (row .path)) ∙ ap (joined-paths (record-of t m)) (sym (rw here at paths)) in
-        rw (w .self-is) (changes-to to (two-changes (inv .0) change), omega (arith, rw here at lengths, inv .1, change .rows-follow, change .limit-stays, one-row (record-of mid m) (row .path)))
-    | else-eq w ↦
-        let here : of-module m row ≡ false = ne-eqb _ _ (λ e. true≢false (sym (c .eq .ensures .1 e) ∙ w .if-eq .left)) in
-        let to : joined-paths (record-of t m) (paths-of m (take i rows)) ≡ joined-paths (record-of t m) (paths-of m (take (i + 1) rows)) = ap (joined-paths (record-of t m)) (sym (rw here at paths ∙ append-nil (paths-of m (take i rows)))) in
-        rw (w .self-is) (changes-to to (inv .0), omega (arith, rw here at lengths, inv .1))
+      | then-eq w ↦
+          let here : of-module m row ≡ true = eq-eqb _ _ (c .eq .ensures .0 (w .if-eq .taken)) in
+          let change = w .join-admitted .ensures .changes in
+          let to : joined (record-of mid m) (Ask (row .path)) ≡ joined-paths (record-of t m) (paths-of m (take (i + 1) rows)) = ap (λ r. joined r (Ask (row .path))) (inv .0 .here) ∙ sym (joined-push (record-of t m) (paths-of m (take i rows)) (row .path)) ∙ ap (joined-paths (record-of t m)) (sym (rw here at paths)) in
+          rw (w .self-is) (changes-to to (two-changes (inv .0) change), omega (arith, rw here at lengths, inv .1, change .rows-follow, change .limit-stays, one-row (record-of mid m) (row .path)))
+      | else-eq w ↦
+          let here : of-module m row ≡ false = ne-eqb _ _ (λ e. true≢false (sym (c .eq .ensures .1 e) ∙ w .if-eq .left)) in
+          let to : joined-paths (record-of t m) (paths-of m (take i rows)) ≡ joined-paths (record-of t m) (paths-of m (take (i + 1) rows)) = ap (joined-paths (record-of t m)) (sym (rw here at paths ∙ append-nil (paths-of m (take i rows)))) in
+          rw (w .self-is) (changes-to to (inv .0), omega (arith, rw here at lengths, inv .1))
     ]
 
 pub returns : need.returns

@@ -15,14 +15,14 @@ returns c =
     let asks : c .match-request .asks-default ≡ true = c .if-not-asks-default .left in
     let out = ap (λ p. Some (Ask p)) (same-path (c .single .result) default-path (c .single .ensures)) in
     elim (c .match-request .came) [
-      in-Path w ↦
-        let both = star-and-path (w .in-Path .path) (sym (w .test-asks-default .ensures) ∙ sym (w .asks-default-is) ∙ asks) in
-        record {
-          out = out ∙ both .0 ∙ ap (handed star) (sym (w .in-Path .is));
-          changes = changes-to (both .1 ∙ ap (joined star) (sym (w .in-Path .is))) (c .reset .ensures);
-        }
-    | in-Star w ↦ absurd (false≢true (sym (w .asks-default-is) ∙ asks))
-    | in-Full w ↦ record {
+      | in-Path w ↦
+          let both = star-and-path (w .in-Path .path) (sym (w .test-asks-default .ensures) ∙ sym (w .asks-default-is) ∙ asks) in
+          record {
+            out = out ∙ both .0 ∙ ap (handed star) (sym (w .in-Path .is));
+            changes = changes-to (both .1 ∙ ap (joined star) (sym (w .in-Path .is))) (c .reset .ensures);
+          }
+      | in-Star w ↦ absurd (false≢true (sym (w .asks-default-is) ∙ asks))
+      | in-Full w ↦ record {
         out = out ∙ ap (handed star) (sym (w .in-Full .is));
         changes = changes-to (ap (joined star) (sym (w .in-Full .is))) (c .reset .ensures);
       }
