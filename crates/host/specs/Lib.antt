@@ -1,5 +1,0 @@
-pub mod Lookups
-pub mod Namespaces
-pub mod Program
-pub mod Rules
-pub mod Tests

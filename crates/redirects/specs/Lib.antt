@@ -1,5 +1,0 @@
-pub mod Ends
-pub mod Examples
-pub mod Following
-pub mod Layers
-pub mod Refusals

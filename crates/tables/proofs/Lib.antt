@@ -1,2 +1,0 @@
-pub mod ListFacts
-pub mod TableFacts
