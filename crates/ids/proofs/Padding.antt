@@ -1,14 +1,13 @@
 -- What stands behind a path's last name settles nothing: paths of the same names are the same. Assumes nothing.
-use Rattle.std.proofs.Common.{◌≡◌, ℕ, zero, suc, ◌+◌, ◌-◌, ◌<◌, ◌≤◌, Bool, true, false, ◌&&◌, eqb, List, [], ◌∷◌, ◌++◌, length, get_or, take, drop, Decides, sym, refl, ap, ◌∙◌, subst, arith, length-drop, take-append-drop, length-take}
+use Rattle.std.proofs.Common.{◌≡◌, ℕ, ◌+◌, ◌<◌, ◌≤◌, Bool, true, eqb, ◌==◌, eq-eqb, List, [], ◌∷◌, length, get_or, drop, Decides, sym, refl, ap, ◌∙◌, subst, arith, length-drop, take-append-drop}
 use mathlib.Core.Bool.{Bool-set}
 use mathlib.Core.HLevel.{is_prop→PathP}
 use native.Mathlib.Bridge.{le_prop}
 use native.Mathlib.Nat.{ℕ_set}
 use Rattle.std.proofs.lemmas.List.{drop_more, length-take-le}
-use Rattle.std.proofs.lemmas.Bool.{and_parts, eqb-true, false≢true}
-use Rattle.std.specs.Cmp.Derive.{on-equal}
-use Rattle.std.specs.Cmp.{IsEquivalence, nat_eq_equiv}
-use Rattle.std.specs.Cmp.Lexicographic.{Matches, each, each-says, each-itself}
+use Rattle.std.proofs.lemmas.Bool.{and_parts, and_from, eqb-true, false≢true}
+use Rattle.std.specs.Cmp.Lexicographic.{pointwise}
+use Rattle.std.specs.Ordering.{on}
 use Rattle.ids.specs.Names.{limit, default_name, blank}
 use Rattle.ids.specs.Paths.{names_of}
 use Rattle.ids.specs.declared.numbers.NameId.{NameId}
@@ -60,21 +59,23 @@ module _ (p q : Path) (same : names_of p ≡ names_of q) where
 
 -- what `==` on slices of names says
 
-abbrev by_name : IsEquivalence (λ (x y : NameId) (r : Bool). Decides r (x.0 ≡ y.0))
-by_name = on-equal (λ (n : NameId). n.0) nat_eq_equiv
+name_same : (x y : NameId) → (x.0 == y.0) ≡ true → x ≡ y
+name_same x y h = ap (λ k. record { 0 = k }) (eqb-true x.0 y.0 h)
 
-each_is : (ms ns : List NameId) → each by_name ms ns ≡ true → ms ≡ ns
+each_is : (ms ns : List NameId) → pointwise (on (λ (n : NameId). n.0) ◌==◌) ms ns ≡ true → ms ≡ ns
 each_is [] [] h = refl
 each_is [] (y ∷ ns) h = absurd (false≢true h)
 each_is (x ∷ ms) [] h = absurd (false≢true h)
 each_is (x ∷ ms) (y ∷ ns) h =
-    let parts = and_parts (eqb x.0 y.0) (each by_name ms ns) h in
-    λ i. record { 0 = eqb-true x.0 y.0 parts.0 i } ∷ each_is ms ns parts.1 i
+    let parts = and_parts (x.0 == y.0) (pointwise (on (λ (n : NameId). n.0) ◌==◌) ms ns) h in
+    λ i. name_same x y parts.0 i ∷ each_is ms ns parts.1 i
 
-pub names_decide : (ms ns : List NameId) (r : Bool) → Matches (λ (x y : NameId) (t : Bool). Decides t (x.0 ≡ y.0)) ms ns r → Decides r (ms ≡ ns)
-names_decide ms ns r m =
-    let e = each-says by_name ms ns r m in
-    (λ t. each_is ms ns (sym e ∙ t), λ s. e ∙ subst (λ l. each by_name ms l ≡ true) s (each-itself by_name ms))
+each_itself : (ms : List NameId) → pointwise (on (λ (n : NameId). n.0) ◌==◌) ms ms ≡ true
+each_itself [] = refl
+each_itself (x ∷ ms) = and_from (x.0 == x.0) _ (eq-eqb x.0 x.0 refl) (each_itself ms)
+
+pub names_decide : (ms ns : List NameId) → Decides (pointwise (on (λ (n : NameId). n.0) ◌==◌) ms ns) (ms ≡ ns)
+names_decide ms ns = (each_is ms ns, λ s. subst (λ l. pointwise (on (λ (n : NameId). n.0) ◌==◌) ms l ≡ true) s (each_itself ms))
 
 pub paths_decide : (p q : Path) (r : Bool) → Decides r (names_of p ≡ names_of q) → Decides r (p ≡ q)
 paths_decide p q r d = (λ t. same_path p q (d.0 t), λ e. d.1 (ap names_of e))

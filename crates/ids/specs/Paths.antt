@@ -1,9 +1,10 @@
 -- A path by the list of its names. Assumes nothing.
-use Rattle.std.specs.Prelude.{◌≡◌, ◌-◌, ◌<◌, List, ◌∷◌, length, take, replicate, Ok, Err, Option, Result, MatchOption, refl}
+use Rattle.std.specs.Prelude.{◌≡◌, ◌-◌, ◌<◌, Bool, List, ◌∷◌, length, take, replicate, Ok, Err, Option, Result, refl, ◌==◌}
 use Rattle.std.specs.declared.cmp.Ordering.{Ordering}
 use Rattle.std.proofs.Common.{lit≤}
-use Rattle.std.specs.Cmp.Lexicographic.{Lex}
-use Rattle.std.specs.Ordering.{MatchOrdering}
+use Rattle.std.specs.Cmp.{unsigned_ties}
+use Rattle.std.specs.Cmp.Lexicographic.{pointwise, slice_cmp, lists_ties}
+use Rattle.std.specs.Ordering.{nat_cmp, on, as_partial_cmp, eq_by_cmp}
 use Rattle.ids.specs.Names.{limit, default_name}
 use Rattle.ids.specs.declared.numbers.NameId.{NameId}
 use Rattle.ids.specs.declared.path_struct.Path.{Path}
@@ -21,16 +22,24 @@ Makes ns (Ok p) = names_of p ≡ ns
 Makes ns (Err Empty) = length ns ≡ 0
 Makes ns (Err TooLong) = limit < length ns
 
+-- whether two paths have the same names
+abbrev pub same_names : Path → Path → Bool
+same_names = on names_of (pointwise (on (λ (n : NameId). n.0) ◌==◌))
+
 -- two names by their numbers
-abbrev pub ByNumber : NameId → NameId → Ordering → Type 0
-ByNumber a b r = MatchOrdering r (a.0 < b.0) (a.0 ≡ b.0) (b.0 < a.0)
+abbrev pub by_number : NameId → NameId → Ordering
+by_number = on (λ (n : NameId). n.0) nat_cmp
 
 -- two paths name by name: the first difference decides, and a path comes before those that go on from it
-abbrev pub InOrder : Path → Path → Ordering → Type 0
-InOrder p q = Lex ByNumber (names_of p) (names_of q)
+abbrev pub in_order : Path → Path → Ordering
+in_order = on names_of (slice_cmp by_number)
 
-abbrev pub InSomeOrder : Path → Path → Option Ordering → Type 0
-InSomeOrder p q r = MatchOption r ⊥ (InOrder p q)
+abbrev pub in_some_order : Path → Path → Option Ordering
+in_some_order = as_partial_cmp in_order
+
+-- paths have the same names exactly where neither comes first
+pub names_tie : (p q : Path) → same_names p q ≡ eq_by_cmp in_order p q
+names_tie p q = lists_ties by_number (λ m n. unsigned_ties m.0 n.0) (names_of p) (names_of q)
 
 -- the path of one name
 abbrev pub one_name : NameId → Path

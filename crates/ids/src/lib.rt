@@ -1,4 +1,6 @@
 // The numbers by which an analysed program is told, and paths of names.
+#![tactic(auto)]
+
 mod numbers;
 mod path_struct;
 mod paths;

@@ -1,10 +1,10 @@
 // Paths: made from names, put one after another, compared name by name.
 ghost use Rattle.std.specs.Prelude.{◌≡◌, ◌+◌, ◌<◌, [], ◌∷◌, ◌++◌, Decides};
 ghost use Rattle.ids.specs.Names.{limit};
-ghost use Rattle.ids.specs.Paths.{names_of, Makes, InOrder, InSomeOrder};
+ghost use Rattle.ids.specs.Paths.{names_of, same_names, in_order, in_some_order, names_tie, Makes};
+ghost use Rattle.std.specs.Cmp.{partial_order_from_own_ties};
 ghost use Rattle.std.specs.Cmp.Rules.{comparing};
-ghost use Rattle.std.proofs.Common.{rules, arith};
-ghost use Rattle.std.specs.Cmp as Keys;
+ghost use Rattle.std.proofs.Common.{rules};
 
 use crate::numbers::NameId;
 use crate::path_struct::{PATH_LIMIT, Path};
@@ -87,24 +87,28 @@ impl Path {
 
 // Two paths are equal where their names are: they are then the same value.
 impl PartialEq for Path {
-    ghost equals = { λ p q r. Decides r (p ≡ q) × Decides r (names_of p ≡ names_of q) };
+    ghost eq = { same_names };
 
-    ghost laws = { Keys.partial_equiv_from_equiv (first_of (Prim.search (comparing, rules), Prim.grind (arith, Self.row.coded.inj))) };
+    ghost laws = { Prim.search (comparing, rules) };
 
-    fn eq(&self, other: &Path) -> bool {
+    fn eq(&self, other: &Path) -> bool
+        ensures computes { result ≡ same_names self.now other.now }
+        ensures value { Decides result (self.now ≡ other.now) }
+        ensures names { Decides result (names_of self.now ≡ names_of other.now) }
+    {
         self.names() == other.names()
     }
 }
 
 impl Eq for Path {
-    ghost laws = { first_of (Prim.search (comparing, rules), Prim.grind (arith, Self.row.coded.inj)) };
+    ghost laws = { Prim.search (comparing, rules) };
 }
 
 // By the number of the first name in which two paths differ; a path stands before those that go on from it.
 impl PartialOrd for Path {
-    ghost compares = { InSomeOrder };
+    ghost partial_cmp = { in_some_order };
 
-    ghost laws = { first_of (Prim.search (comparing, rules), Prim.grind (arith, Self.row.coded.inj)) };
+    ghost laws = { partial_order_from_own_ties (Prim.search (comparing, rules)) names_tie };
 
     fn partial_cmp(&self, other: &Path) -> Option<Ordering> {
         Some(self.cmp(other))
@@ -112,13 +116,13 @@ impl PartialOrd for Path {
 }
 
 impl Ord for Path {
-    ghost orders = { InOrder };
+    ghost cmp = { in_order };
 
-    ghost total = { first_of (Prim.search (comparing, rules), Prim.grind (arith, Self.row.coded.inj)) };
+    ghost total = { Prim.search (comparing, rules) };
 
-    ghost matches_partial_cmp = { first_of (Prim.search (comparing, rules), Prim.grind (arith, Self.row.coded.inj)) };
+    ghost matches_partial_cmp = { Prim.search (comparing, rules) };
 
-    ghost matches_eq = { first_of (Prim.search (comparing, rules), Prim.grind (arith, Self.row.coded.inj)) };
+    ghost matches_eq = { names_tie };
 
     fn cmp(&self, other: &Path) -> Ordering {
         self.names().cmp(&other.names())
