@@ -1,4 +1,6 @@
 // Reads requests or records from standard input, and prints what is new of each request, or who offers a name.
+#![tactic(auto)]
+
 mod failures;
 mod offers;
 mod reports;

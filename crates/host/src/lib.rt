@@ -1,4 +1,6 @@
 // What a finder may ask of an analysed program, and what the answers mean.
+#![tactic(auto)]
+
 mod host;
 mod node_kinds;
 mod told;

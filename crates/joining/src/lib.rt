@@ -1,4 +1,6 @@
 // Joining requests to records: what of a request is new to a module's record, and the record after it.
+#![tactic(auto)]
+
 mod covering;
 mod records;
 mod records_struct;

@@ -1,4 +1,6 @@
 // The table of records by examples: what is handed out, which rows are used, what is refused.
+#![tactic(auto)]
+
 #[cfg(test)]
 mod tests {
     use ids::{ModuleId, NameId, Path};

@@ -1,4 +1,6 @@
 // Who offers a name: a walk through export-alls over any host, in lent marks.
+#![tactic(auto)]
+
 mod marks;
 mod offering;
 mod refusals;

@@ -1,4 +1,6 @@
 // Who offers a name, by examples in the text form of the records.
+#![tactic(auto)]
+
 #[cfg(test)]
 mod tests {
     use host::Host;

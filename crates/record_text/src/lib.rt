@@ -1,4 +1,6 @@
 // A text of records, and its reader.
+#![tactic(auto)]
+
 mod collecting;
 mod draft;
 mod faults;

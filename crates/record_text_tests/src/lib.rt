@@ -1,4 +1,6 @@
 // Tests of the text of records, apart from its reader: that is then proved once.
+#![tactic(auto)]
+
 #[cfg(test)]
 mod tests {
     use host::{

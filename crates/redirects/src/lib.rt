@@ -1,4 +1,6 @@
 // A layer over any host that sends modules on to others: redirects.
+#![tactic(auto)]
+
 mod following;
 mod layer;
 mod redirect;

@@ -1,4 +1,6 @@
 // What follows from any host: where a specifier leads, which module stands for another, and what a module exports.
+#![tactic(auto)]
+
 mod resolving;
 mod targets;
 

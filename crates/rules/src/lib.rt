@@ -1,4 +1,6 @@
 // The rules of one trace: what is reached from a module and what is asked of it.
+#![tactic(auto)]
+
 mod facts;
 mod places;
 mod sinks;

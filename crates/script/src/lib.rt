@@ -1,4 +1,6 @@
 // The text of requests: names become numbers and back, and what cannot be read is told.
+#![tactic(auto)]
+
 mod faults;
 mod interner;
 mod interner_struct;

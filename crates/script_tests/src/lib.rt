@@ -1,4 +1,6 @@
 // Tests of the text layer, apart from it: the crate that they test is then proved once.
+#![tactic(auto)]
+
 #[cfg(test)]
 mod tests {
     use script::{Fault, Line, Names, Problem, read, request_text};

@@ -1,4 +1,6 @@
 // Tables that a caller fills, and whether they keep the rules of the records.
+#![tactic(auto)]
+
 mod checks;
 mod decls;
 mod modules;

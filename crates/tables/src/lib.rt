@@ -1,4 +1,6 @@
 // A host over tables that are held in memory. The tables are checked once, where they are loaded.
+#![tactic(auto)]
+
 mod infos;
 mod loading;
 mod lookups;

@@ -1,5 +1,7 @@
 // Tables by examples: a small program is told as it was handed in; for each rule of the records there is a program
 // that breaks just that rule and is refused, and one beside it that keeps the rule and is loaded.
+#![tactic(auto)]
+
 #[cfg(test)]
 mod building;
 #[cfg(test)]

@@ -1,4 +1,6 @@
 // Lines become words, words become paths of names, and texts become numbers and back.
+#![tactic(auto)]
+
 mod interner;
 mod interner_struct;
 mod spelling;
