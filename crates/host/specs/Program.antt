@@ -1,5 +1,5 @@
 -- An analysed program, as nested lists. A record's number is its place in its list. Assumes nothing.
-use Rattle.std.specs.Prelude.{ℕ, List, length, Some, None, Option}
+use Rattle.std.specs.Prelude.{ℕ, List, length, Option}
 use Rattle.std.specs.Option.{option_map}
 use Rattle.ids.specs.declared.numbers.ModuleId.{ModuleId}
 use Rattle.ids.specs.declared.numbers.NameId.{NameId}

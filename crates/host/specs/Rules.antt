@@ -10,7 +10,6 @@ use Rattle.ids.specs.declared.path_struct.Path.{Path}
 use Rattle.host.specs.Program.{DeclKind, target, qualified_target, file_ref, definition, Decl, Symbol, Module, Package, Program}
 use Rattle.host.specs.declared.told.Dependency.{Dependency}
 use Rattle.host.specs.declared.told.Export.{Export}
-use Rattle.host.specs.declared.told.FileDep.{FileDep}
 use Rattle.host.specs.declared.told.FileDepName.{FileDepName}
 use Rattle.host.specs.declared.told.FileDepName.TheVariants.{Star, Name}
 use Rattle.host.specs.declared.told.ModuleKind.{ModuleKind}
