@@ -1,6 +1,6 @@
 -- The rules that the records of a program keep, one named field each. Assumes nothing.
 use Rattle.std.specs.Prelude.{◌≡◌, ℕ, suc, ◌^◌, ◌<◌, ◌≤◌, Bool, true, false, not, ◌&&◌, List, [], ◌∷◌, map, length, IfSome, Some, None, Option, slice_index}
-use Rattle.std.specs.List.{AllByRecursion as All, slice_get}
+use Rattle.std.specs.List.{AllByRecursion, slice_get}
 use Rattle.ids.specs.Paths.{names_of}
 use Rattle.ids.specs.declared.numbers.ModuleId.{ModuleId}
 use Rattle.ids.specs.declared.numbers.NameId.{NameId}
@@ -52,7 +52,7 @@ abbrev pub NameKnown : ℕ → NameId → Type 0
 NameKnown names n = n.0 < names
 
 abbrev pub PathKnown : ℕ → Path → Type 0
-PathKnown names p = All (NameKnown names) (names_of p)
+PathKnown names p = AllByRecursion (NameKnown names) (names_of p)
 
 -- a symbol of a module that has so many
 abbrev pub SymbolKnown : ℕ → SymbolId → Type 0
@@ -80,7 +80,7 @@ abbrev pub KindKept : ℕ → ℕ → DeclKind → Type 0
 KindKept names symbols (target s) = IfSome s (SymbolKnown symbols)
 KindKept names symbols (qualified_target s p) = IfSome s (SymbolKnown symbols) × PathKnown names p
 KindKept names symbols (file_ref f) = NameKnown names f.specifier × FileNameKnown names f.name
-KindKept names symbols (definition k deps) = (length deps ≤ list_limit) × All (DepKept names symbols) deps
+KindKept names symbols (definition k deps) = (length deps ≤ list_limit) × AllByRecursion (DepKept names symbols) deps
 
 abbrev pub is_definition : DeclKind → Bool
 is_definition (target s) = false
@@ -108,12 +108,12 @@ pub record SymbolKept (names symbols i : ℕ) (s : Symbol) : Type 0 where
   pub parent_lower : IfSome s.parent (λ p. p.0 < i)
   pub decls_some : 1 ≤ length s.decls
   pub decls_few : length s.decls ≤ list_limit
-  pub decls_kept : All (DeclKept names symbols) s.decls
+  pub decls_kept : AllByRecursion (DeclKept names symbols) s.decls
   pub exports_few : length s.exports ≤ list_limit
-  pub exports_known : All (ExportKnown names symbols) s.exports
+  pub exports_known : AllByRecursion (ExportKnown names symbols) s.exports
   pub exports_distinct : Distinct (map (λ e. e.name.0) s.exports)
   pub members_few : length s.members ≤ list_limit
-  pub members_known : All (SymbolKnown symbols) s.members
+  pub members_known : AllByRecursion (SymbolKnown symbols) s.members
 
 -- modules
 
@@ -147,10 +147,10 @@ pub record ModuleKept (names packages modules : ℕ) (m : Module) : Type 0 where
   pub types_of_typed : IfSome m.types (λ t. is_typed m.kind ≡ true)
   pub lists_kept : ListsKept m.kind (length m.dependencies) (length m.re_export_alls) (length m.symbols)
   pub dependencies_few : length m.dependencies ≤ list_limit
-  pub dependencies_kept : All (DependencyKept names modules) m.dependencies
+  pub dependencies_kept : AllByRecursion (DependencyKept names modules) m.dependencies
   pub dependencies_distinct : Distinct (map (λ d. d.specifier.0) m.dependencies)
   pub re_export_alls_few : length m.re_export_alls ≤ list_limit
-  pub re_export_alls_kept : All (ReExportAllKept names) m.re_export_alls
+  pub re_export_alls_kept : AllByRecursion (ReExportAllKept names) m.re_export_alls
   pub symbols_few : length m.symbols ≤ list_limit
   pub symbols_kept : AllAt (SymbolKept names (length m.symbols)) 0 m.symbols
 
@@ -170,7 +170,7 @@ abbrev pub EntryKept : List Module → ℕ → ModuleId → Type 0
 EntryKept modules i m = owner_of (slice_get modules m.0) ≡ Some i
 
 abbrev pub EntriesKept : List Module → ℕ → List ModuleId → Type 0
-EntriesKept modules i es = (length es ≤ list_limit) × All (EntryKept modules i) es
+EntriesKept modules i es = (length es ≤ list_limit) × AllByRecursion (EntryKept modules i) es
 
 abbrev pub PackageKept : List Module → ℕ → Package → Type 0
 PackageKept modules i p = IfSome p.entries (EntriesKept modules i)
@@ -184,4 +184,4 @@ pub record Kept (p : Program) : Type 0 where
   pub packages_few : length p.packages ≤ package_limit
   pub modules_few : length p.modules ≤ module_limit
   pub packages_kept : AllAt (PackageKept p.modules) 0 p.packages
-  pub modules_kept : All (ModuleKept p.names (length p.packages) (length p.modules)) p.modules
+  pub modules_kept : AllByRecursion (ModuleKept p.names (length p.packages) (length p.modules)) p.modules
