@@ -1,6 +1,6 @@
 -- Lemmas on names that get numbers in a table that grows.
 use Rattle.std.proofs.Common.{◌≡◌, ℕ, ◌+◌, ◌<◌, ◌≤◌, List, [], ◌∷◌, ◌++◌, map, length, get_or, take, Err, sym, refl, ap, ◌∙◌, subst, arith, Bor}
-use Rattle.std.specs.List.{ContainsAt as Has, AllByRecursion as All}
+use Rattle.std.specs.List.{ContainsAt as Has, AllByRecursion}
 use Rattle.std.proofs.ByRecursion.{All-push, All-weaker, has_get_or}
 use Rattle.std.proofs.lemmas.List.{append_assoc, length-append, length-map, get_or_append_left, get_or-map, map_push, map_more}
 use Rattle.ids.specs.declared.numbers.NameId.{NameId}
@@ -85,7 +85,7 @@ spells before ps after w ns cut old =
     record {
       known = old.known;
       pieces = subst (Pieces dot w) (sym old.same) cut;
-      solid = subst (All (λ t. 0 < length t)) (sym old.same) old.solid;
+      solid = subst (AllByRecursion (λ t. 0 < length t)) (sym old.same) old.solid;
     }
 
 -- pieces that are not all names spell none
