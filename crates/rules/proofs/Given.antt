@@ -1,21 +1,18 @@
 -- An outcome is in the list of what a fact gives exactly where the rules give it. Assumes nothing.
-use Rattle.std.proofs.Common.{◌≡◌, ℕ, ◌<◌, ◌≤◌, Bool, true, false, cond, not, ◌&&◌, ◌||◌, eqb, leb, ◌⊎◌, List, [], ◌∷◌, ◌++◌, length, is_some, Some, None, Option, sym, refl, ap, ◌∙◌, subst, inl, inr, arith}
-use Rattle.std.proofs.lemmas.Bool.{eqb-true, eq-eqb, ne_eqb, leb-true, le-leb, not-true, not_from_false, and_from, and_left, and_right, and_parts, true≢false, false≢true}
-use Rattle.ids.specs.Names.{limit, prototype_name}
-use Rattle.ids.specs.Paths.{names_of}
+use Rattle.std.proofs.Common.{◌≡◌, true, false, cond, not, eqb, ◌⊎◌, List, [], ◌∷◌, ◌++◌, is_some, Some, None, Option, sym, refl, ap, ◌∙◌, subst, inl, inr}
+use Rattle.std.proofs.lemmas.Bool.{eq-eqb, ne_eqb, not-true, not_from_false, true≢false}
 use Rattle.ids.specs.declared.numbers.ModuleId.{ModuleId}
 use Rattle.ids.specs.declared.numbers.NameId.{NameId}
 use Rattle.ids.specs.declared.numbers.PackageId.{PackageId}
 use Rattle.ids.specs.declared.numbers.SymbolId.{SymbolId}
-use Rattle.ids.specs.declared.path_struct.Path.{Path}
 use Rattle.host.specs.Namespaces.{referred}
 use Rattle.host.specs.Program.{DeclKind, target, qualified_target, file_ref, definition, Decl, Symbol}
 use Rattle.host.specs.declared.told.Export.{Export}
 use Rattle.host.specs.declared.told.SymbolNodeDep.{SymbolNodeDep}
 use Rattle.host.specs.declared.told.SymbolNodeDep.TheVariants.{Id, QualifiedId, ImportType}
 use Rattle.resolution.specs.Targets as targets
-use Rattle.rules.specs.Facts.{Fact, ask, below, Wanted, path, Outcome, reached, found, flagged, reported, requested, package_requested}
-use Rattle.rules.specs.Lists.{each, when, given, asks, Trace, package_of, file_wanted, path_wanted, file_path, symbol_of, into_package, into_module, into, asking, dep_gives, apart, member_gives, function_gives, kind_gives, decl_gives, children_give, ask_gives, gives}
+use Rattle.rules.specs.Facts.{ask, Outcome, reached, found, flagged, reported, package_requested}
+use Rattle.rules.specs.Lists.{each, when, given, asks, Trace, package_of, file_wanted, path_wanted, symbol_of, into_package, into_module, into, asking, dep_gives, apart, member_gives, function_gives, kind_gives, decl_gives, children_give, ask_gives, gives}
 use Rattle.rules.specs.Members.{In, first, later}
 use Rattle.rules.specs.Rules.{Among, OwnTarget, OtherTarget, Declares, Met, Open, Refers, Public, Gives, private_asked, declaration, overloaded, alias, qualified_alias, file_reference, file_of_package, class_of_member, expando_property, id, qualified_id, import_type, import_of_package, export_of, member_of}
 use Rattle.rules.specs.Symbols.{is_private, namespaces_of, both, includes, is_overloaded, contains, same_symbol, same_package}

@@ -1,20 +1,17 @@
 -- The same of paths below a symbol. Assumes nothing.
-use Rattle.std.proofs.Common.{◌≡◌, ℕ, ◌<◌, ◌≤◌, Bool, true, false, cond, not, ◌&&◌, ◌||◌, eqb, leb, ◌⊎◌, List, [], ◌∷◌, ◌++◌, length, is_some, Some, None, Option, sym, refl, ap, ◌∙◌, subst, inl, inr, arith}
-use Rattle.std.proofs.lemmas.Bool.{eqb-true, eq-eqb, leb-true, leb-false, le-leb, lt-leb, not-true, not_from_false, and_from, and_parts, true≢false, false≢true}
+use Rattle.std.proofs.Common.{◌≡◌, ◌<◌, ◌≤◌, Bool, true, false, cond, not, ◌&&◌, ◌||◌, eqb, leb, ◌⊎◌, List, [], ◌∷◌, ◌++◌, length, Some, None, Option, sym, refl, ap, ◌∙◌, subst, inl, inr}
+use Rattle.std.proofs.lemmas.Bool.{eqb-true, eq-eqb, leb-true, leb-false, le-leb, lt-leb, not-true, not_from_false, and_from, and_parts, true≢false}
 use Rattle.ids.specs.Names.{limit, prototype_name}
 use Rattle.ids.specs.Paths.{names_of}
-use Rattle.ids.specs.declared.numbers.ModuleId.{ModuleId}
 use Rattle.ids.specs.declared.numbers.NameId.{NameId}
 use Rattle.ids.specs.declared.numbers.SymbolId.{SymbolId}
-use Rattle.ids.specs.declared.path_struct.Path.{Path}
 use Rattle.host.specs.Program.{DeclKind, target, qualified_target, file_ref, definition, Decl, Symbol}
-use Rattle.rules.specs.Facts.{Fact, ask, below, Wanted, path, Outcome, reached, found, reported, requested, package_requested}
-use Rattle.rules.specs.Lists.{each, when, asks, Trace, file_path, symbol_of, into, formed, known_or, elsewhere_gives, below_decl_gives, export_named, member_named, prototype_member as prototype-member-gives, prototype_gives, export_below, name_gives, names_give, below_gives, gives}
+use Rattle.rules.specs.Facts.{ask, below, path, Outcome, reached, reported, requested}
+use Rattle.rules.specs.Lists.{each, when, asks, Trace, file_path, symbol_of, formed, elsewhere_gives, below_decl_gives, export_named, member_named, prototype_member as prototype-member-gives, prototype_gives, name_gives, names_give, below_gives, gives}
 use Rattle.rules.specs.Members.{In, first, later}
-use Rattle.rules.specs.Rules.{Among, OwnTarget, OtherTarget, Declares, Named, Plain, Gives, below_declaration, below_alias, below_qualified_alias, below_file, below_file_of_package, absent_alias, absent_qualified_alias, too_long_alias, too_long_file, prototype, prototype_member, prototype_lacks, prototype_deeper, export_named_last, export_named_on, scope_lacks, itself}
+use Rattle.rules.specs.Rules.{Declares, Named, Plain, Gives, below_declaration, below_alias, below_qualified_alias, below_file, below_file_of_package, absent_alias, absent_qualified_alias, too_long_alias, too_long_file, prototype, prototype_member, prototype_lacks, prototype_deeper, export_named_last, export_named_on, scope_lacks, itself}
 use Rattle.rules.specs.Symbols.{any, is_class, is_scope, both, leads_elsewhere}
 use Rattle.rules.specs.declared.facts.DiagnosticKind.TheVariants.{NotFoundReference, UnsupportedComplexReference, UnresolvedReference}
-use Rattle.rules.specs.declared.facts.Namespace.{Namespace}
 use Rattle.rules.proofs.Given.{to_own, to_other, from_into}
 use Rattle.rules.proofs.Membership.{in_left, in_right, in_either, in_one, to_each, from_each, to_when, from_when, to_given, from_given, to_then, to_else, from_cond, to_both, from_asks}
 

@@ -1,9 +1,9 @@
 -- What stands in the lists of which the rules are made. Assumes nothing.
-use Rattle.std.proofs.Common.{◌≡◌, ℕ, zero, suc, Bool, true, false, cond, not, ◌⊎◌, List, [], ◌∷◌, ◌++◌, is_some, Some, None, Option, sym, refl, ap, ◌∙◌, subst, inl, inr}
+use Rattle.std.proofs.Common.{◌≡◌, ℕ, zero, suc, Bool, true, false, cond, ◌⊎◌, List, [], ◌∷◌, ◌++◌, is_some, Some, None, Option, sym, refl, ap, subst, inl, inr}
 use Rattle.std.proofs.lemmas.Bool.{true≢false, false≢true}
 use Rattle.std.specs.List.{slice_get}
 use Rattle.ids.specs.declared.numbers.SymbolId.{SymbolId}
-use Rattle.rules.specs.Facts.{Fact, ask, Outcome, reached}
+use Rattle.rules.specs.Facts.{ask, Outcome, reached}
 use Rattle.rules.specs.Lists.{each, when, given, asks}
 use Rattle.rules.specs.Members.{In, first, later}
 use Rattle.rules.specs.Rules.{Among}

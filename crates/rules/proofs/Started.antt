@@ -1,6 +1,6 @@
 -- An outcome is in the list of what the start gives exactly where the rules give it. Assumes nothing.
-use Rattle.std.proofs.Common.{◌≡◌, ℕ, ◌<◌, ◌≤◌, Bool, true, false, cond, not, ◌&&◌, eqb, ◌⊎◌, List, [], ◌∷◌, ◌++◌, Some, None, Option, sym, refl, ap, ◌∙◌, subst, inl, inr, arith}
-use Rattle.std.proofs.lemmas.Bool.{eqb-true, eq-eqb, ne_eqb, not-true, not_from_false, and_parts, cases_lt, cases_eq, true≢false, false≢true}
+use Rattle.std.proofs.Common.{◌≡◌, ℕ, ◌<◌, ◌≤◌, Bool, true, false, not, ◌&&◌, eqb, ◌⊎◌, List, [], ◌∷◌, Some, None, Option, sym, refl, ap, ◌∙◌, subst, inl, inr, arith}
+use Rattle.std.proofs.lemmas.Bool.{eq-eqb, ne_eqb, not-true, not_from_false, cases_lt, true≢false, false≢true}
 use Rattle.std.specs.List.{slice_get}
 use Rattle.ids.specs.Paths.{names_of}
 use Rattle.ids.specs.declared.numbers.ModuleId.{ModuleId}
@@ -17,14 +17,14 @@ use Rattle.joining.specs.Joining as joining
 use Rattle.resolution.specs.Targets as targets
 use Rattle.offering.proofs.Computing.{first_lawful}
 use Rattle.offering.specs.Computed.{first_offer}
-use Rattle.offering.specs.Offers.{Passes, First}
-use Rattle.rules.specs.Facts.{Fact, ask, below, path, star, Outcome, reached, found, reported, requested, package_requested}
-use Rattle.rules.specs.Lists.{each, when, given, asks, Trace, package_of, symbol_of, export_named}
+use Rattle.offering.specs.Offers.{First}
+use Rattle.rules.specs.Facts.{ask, path, Outcome, reached, found, reported, requested, package_requested}
+use Rattle.rules.specs.Lists.{each, given, asks, Trace, package_of, symbol_of, export_named}
 use Rattle.rules.specs.Members.{In, first, later}
 use Rattle.rules.specs.Rules.{Among}
 use Rattle.rules.specs.Starting.{Exported, LeadsTo, StarGives, star_export, star_range, star_request, star_package, PathGives, path_export, path_below, path_range, path_request, path_nowhere, RecordGives, of_star, of_full, of_path, is_traced, is_untyped, Starts, untyped, traced}
 use Rattle.rules.specs.Starts as lists
-use Rattle.rules.specs.Symbols.{includes, exported_namespaces, same_package}
+use Rattle.rules.specs.Symbols.{exported_namespaces, same_package}
 use Rattle.rules.specs.declared.facts.DiagnosticKind.TheVariants.{UnsupportedNestedJavaScript}
 use Rattle.rules.specs.declared.facts.Namespace.{Namespace}
 use Rattle.rules.proofs.Membership.{in_left, in_right, in_either, in_one, to_each, from_each, to_when, from_when, to_given, from_given, to_asks, from_asks}

@@ -1,12 +1,12 @@
 -- A list that was worked off has exactly what is reached. Assumes nothing.
-use Rattle.std.proofs.Common.{◌≡◌, ℕ, zero, suc, ◌+◌, ◌<◌, ◌≤◌, Bool, true, false, cond, ◌||◌, ◌⊎◌, List, [], ◌∷◌, ◌++◌, length, take, is_some, Some, None, Decides, Option, sym, refl, ap, ◌∙◌, subst, inl, inr, append_assoc, append-nil, arith, length-append}
+use Rattle.std.proofs.Common.{◌≡◌, ℕ, zero, suc, ◌<◌, ◌≤◌, Bool, true, false, cond, ◌⊎◌, List, [], ◌∷◌, ◌++◌, length, is_some, Some, Decides, sym, refl, ap, ◌∙◌, subst, inl, inr, append_assoc, append-nil, arith, length-append}
 use Rattle.std.proofs.lemmas.Bool.{or_cases, or_left, or_right, true≢false, false≢true}
 use Rattle.std.specs.List.{slice_get}
 use Rattle.rules.specs.Lists.{each}
 use Rattle.rules.specs.Members.{In, first, later}
 use Rattle.rules.specs.Rules.{Among}
 use Rattle.rules.specs.Worklist.{Reach, from_start, from_one, among, added, distinct, Supported, Apart, Collected}
-use Rattle.rules.proofs.Membership.{in_left, in_right, in_either, in_one, to_each, from_each}
+use Rattle.rules.proofs.Membership.{in_left, in_right, in_either, in_one, to_each}
 
 in_place : {A : Type 0} {x : A} {xs : List A} → In x xs → Among xs x
 in_place (first e) = (zero, ap Some (sym e))

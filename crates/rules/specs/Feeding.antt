@@ -1,5 +1,5 @@
 -- A list of outcomes goes into a sink until it stops. Assumes nothing.
-use Rattle.std.specs.Prelude.{Bool, true, false, cond, List, [], ◌∷◌}
+use Rattle.std.specs.Prelude.{Bool, true, cond, List, [], ◌∷◌}
 
 -- the rest goes on from a state, unless it has stopped
 abbrev pub onward : {S : Type 0} → (S → S × Bool) → S × Bool → S × Bool

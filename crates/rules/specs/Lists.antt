@@ -1,5 +1,5 @@
 -- What the start of a trace and each fact give, in the order in which it is met, value before type. Assumes nothing.
-use Rattle.std.specs.Prelude.{ℕ, Bool, true, false, cond, not, ◌&&◌, ◌||◌, List, [], ◌∷◌, ◌++◌, length, Some, None, Option, ◌==◌, nat_le}
+use Rattle.std.specs.Prelude.{Bool, true, false, cond, not, ◌&&◌, ◌||◌, List, [], ◌∷◌, ◌++◌, length, Some, None, Option, ◌==◌, nat_le}
 use Rattle.ids.specs.Names.{limit}
 use Rattle.ids.specs.Paths.{names_of}
 use Rattle.ids.specs.declared.numbers.ModuleId.{ModuleId}
@@ -7,7 +7,7 @@ use Rattle.ids.specs.declared.numbers.NameId.{NameId}
 use Rattle.ids.specs.declared.numbers.PackageId.{PackageId}
 use Rattle.ids.specs.declared.numbers.SymbolId.{SymbolId}
 use Rattle.ids.specs.declared.path_struct.Path.{Path}
-use Rattle.host.specs.Lookups.{within, module_at, symbol_at}
+use Rattle.host.specs.Lookups.{module_at, symbol_at}
 use Rattle.host.specs.Namespaces.{referred}
 use Rattle.host.specs.Program.{DeclKind, target, qualified_target, file_ref, definition, Decl, Symbol, Program}
 use Rattle.host.specs.declared.told.Export.{Export}
@@ -16,7 +16,7 @@ use Rattle.host.specs.declared.told.FileDepName.TheVariants.{Star, Name}
 use Rattle.host.specs.declared.told.SymbolNodeDep.{SymbolNodeDep}
 use Rattle.host.specs.declared.told.SymbolNodeDep.TheVariants.{Id, QualifiedId, ImportType}
 use Rattle.resolution.specs.Targets as targets
-use Rattle.rules.specs.Facts.{Fact, ask, below, Wanted, path, star, full, Outcome, reached, found, flagged, reported, requested, package_requested}
+use Rattle.rules.specs.Facts.{Fact, ask, below, Wanted, path, full, Outcome, reached, found, flagged, reported, requested, package_requested}
 use Rattle.rules.specs.Symbols.{any, name_of, is_private, is_class, is_scope, namespaces_of, both, includes, is_overloaded, contains, leads_elsewhere, same_symbol, same_package}
 use Rattle.rules.specs.declared.facts.DiagnosticKind.TheVariants.{UnsupportedPrivateMemberReference, NotFoundReference, UnsupportedComplexReference, UnresolvedReference}
 use Rattle.rules.specs.declared.facts.Namespace.{Namespace}

@@ -1,5 +1,5 @@
 -- The rules of one trace as a relation: one constructor for each way in which a fact gives something. Assumes nothing.
-use Rattle.std.specs.Prelude.{◌≡◌, ℕ, ◌<◌, ◌≤◌, Bool, true, false, ◌||◌, List, [], ◌∷◌, ◌++◌, length, Some, None, Option, ◌≢◌}
+use Rattle.std.specs.Prelude.{◌≡◌, ℕ, ◌<◌, ◌≤◌, true, false, ◌||◌, List, [], ◌∷◌, ◌++◌, length, Some, None, Option, ◌≢◌}
 use Rattle.std.specs.List.{slice_get}
 use Rattle.ids.specs.Names.{limit, prototype_name}
 use Rattle.ids.specs.Paths.{names_of}
@@ -17,7 +17,7 @@ use Rattle.host.specs.declared.told.ReferenceNamespace.{ReferenceNamespace}
 use Rattle.host.specs.declared.told.SymbolNodeDep.{SymbolNodeDep}
 use Rattle.host.specs.declared.told.SymbolNodeDep.TheVariants.{Id, QualifiedId, ImportType}
 use Rattle.resolution.specs.Targets as targets
-use Rattle.rules.specs.Facts.{Fact, ask, below, Wanted, path, star, full, Outcome, reached, found, flagged, reported, requested, package_requested}
+use Rattle.rules.specs.Facts.{Fact, ask, below, path, Outcome, reached, found, flagged, reported, requested, package_requested}
 use Rattle.rules.specs.Lists.{Trace, package_of, file_wanted, path_wanted, file_path, symbol_of, export_named, member_named}
 use Rattle.rules.specs.Symbols.{any, is_private, is_class, is_scope, namespaces_of, includes, is_overloaded, contains, leads_elsewhere, same_package}
 use Rattle.rules.specs.declared.facts.DiagnosticKind.TheVariants.{UnsupportedPrivateMemberReference, NotFoundReference, UnsupportedComplexReference, UnresolvedReference}

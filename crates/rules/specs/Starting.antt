@@ -1,5 +1,5 @@
 -- The start of a trace as a relation, and what is reached from it. Assumes nothing.
-use Rattle.std.specs.Prelude.{◌≡◌, ℕ, Bool, true, false, not, ◌&&◌, ◌⊎◌, List, [], ◌∷◌, Some, None, Option, ◌≢◌}
+use Rattle.std.specs.Prelude.{◌≡◌, ℕ, Bool, true, false, List, [], ◌∷◌, Some, None, ◌≢◌}
 use Rattle.std.specs.List.{slice_get}
 use Rattle.ids.specs.Paths.{names_of}
 use Rattle.ids.specs.declared.numbers.ModuleId.{ModuleId}
@@ -16,7 +16,7 @@ use Rattle.host.specs.declared.told.ReExportAll.{ReExportAll}
 use Rattle.joining.specs.Joining as joining
 use Rattle.resolution.specs.Targets as targets
 use Rattle.offering.specs.Offers.{First}
-use Rattle.rules.specs.Facts.{Fact, ask, below, Wanted, path, star, full, Outcome, reached, found, reported, requested, package_requested}
+use Rattle.rules.specs.Facts.{Fact, ask, below, path, star, Outcome, reached, found, reported, requested, package_requested}
 use Rattle.rules.specs.Lists.{Trace, package_of, symbol_of, export_named}
 use Rattle.rules.specs.Rules.{Among, Gives}
 use Rattle.rules.specs.Starts.{module_exports, module_alls, trace_of}

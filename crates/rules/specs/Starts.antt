@@ -1,5 +1,5 @@
 -- What the start of a trace gives, in the order in which it is met. Assumes nothing.
-use Rattle.std.specs.Prelude.{ℕ, Bool, true, false, cond, not, ◌&&◌, List, [], ◌∷◌, ◌++◌, Some, None, Option, ◌==◌}
+use Rattle.std.specs.Prelude.{ℕ, Bool, true, false, not, ◌&&◌, List, [], ◌∷◌, ◌++◌, Some, None, Option, ◌==◌}
 use Rattle.std.specs.List.{slice_get}
 use Rattle.ids.specs.Paths.{names_of}
 use Rattle.ids.specs.declared.numbers.ModuleId.{ModuleId}
@@ -7,7 +7,7 @@ use Rattle.ids.specs.declared.numbers.NameId.{NameId}
 use Rattle.ids.specs.declared.numbers.PackageId.{PackageId}
 use Rattle.ids.specs.declared.numbers.SymbolId.{SymbolId}
 use Rattle.host.specs.Lookups.{within, module_at}
-use Rattle.host.specs.Program.{Symbol, Program}
+use Rattle.host.specs.Program.{Program}
 use Rattle.host.specs.declared.told.Export.{Export}
 use Rattle.host.specs.declared.told.ModuleKind.{ModuleKind}
 use Rattle.host.specs.declared.told.ModuleKind.TheVariants.{Missing, Typed, Untyped, Json, Wasm, External}
@@ -16,7 +16,7 @@ use Rattle.joining.specs.Joining as joining
 use Rattle.resolution.specs.Targets as targets
 use Rattle.offering.specs.Computed.{first_offer}
 use Rattle.offering.specs.ExportedNames.{star_entries}
-use Rattle.rules.specs.Facts.{Fact, ask, below, Wanted, path, star, full, Outcome, reached, found, reported, requested, package_requested}
+use Rattle.rules.specs.Facts.{below, path, star, Outcome, reached, found, reported, requested, package_requested}
 use Rattle.rules.specs.Lists.{each, when, given, asks, Trace, package_of, symbol_of, export_named}
 use Rattle.rules.specs.Symbols.{exported_namespaces, same_package}
 use Rattle.rules.specs.declared.facts.DiagnosticKind.TheVariants.{UnsupportedNestedJavaScript}

@@ -4,7 +4,7 @@ use Rattle.ids.specs.declared.numbers.NameId.{NameId}
 use Rattle.ids.specs.declared.numbers.PackageId.{PackageId}
 use Rattle.ids.specs.declared.numbers.SymbolId.{SymbolId}
 use Rattle.host.specs.Namespaces.{decl_namespaces}
-use Rattle.host.specs.Program.{DeclKind, target, qualified_target, file_ref, definition, Decl, Symbol, told_kind}
+use Rattle.host.specs.Program.{Decl, Symbol, told_kind}
 use Rattle.host.specs.Rules.{is_definition}
 use Rattle.host.specs.declared.told.SourceRange.{SourceRange}
 use Rattle.rules.specs.declared.facts.Namespace.{Namespace}

@@ -27,7 +27,7 @@ pub(crate) enum Destination {
 
 // The package of a module.
 pub(crate) fn package_of<H: Host>(host: &H, module: ModuleId) -> Option<PackageId>
-    ensures { result ≡ lists.package_of (program host.now) «module» }
+    ensures { result ≡ lists.package_of (H.program host.now) «module» }
 {
     match host.module(module) {
         Some(info) => info.package,
@@ -47,7 +47,7 @@ fn is_own(place: Place, package: PackageId) -> bool
 
 // Where a specifier leads.
 pub(crate) fn destination_of<H: Host>(host: &H, place: Place, specifier: NameId) -> Destination
-    ensures { (own : ModuleId → List meaning.Outcome) → lists.into (spec.trace_at (program host.now) place) specifier own ≡ spec.destined result own }
+    ensures { (own : ModuleId → List meaning.Outcome) → lists.into (spec.trace_at (H.program host.now) place) specifier own ≡ spec.destined result own }
 {
     let Some(target) = target(host, place.at, specifier) else {
         return Destination::Nowhere;

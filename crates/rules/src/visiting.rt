@@ -22,7 +22,7 @@ pub(crate) fn asks<S: Sink>(
     referrer: SymbolId,
     namespaces: (bool, bool),
 ) -> Result<(), Stopped>
-    ensures { (sink.new, is_ok result) ≡ feed after sink.old (lists.asks symbol referrer namespaces) }
+    ensures { (sink.new, is_ok result) ≡ feed S.after sink.old (lists.asks symbol referrer namespaces) }
 {
     if namespaces.0 {
         sink.take(Outcome::Reached(Fact::Ask(symbol, referrer, Namespace::Value)))?;
@@ -41,7 +41,7 @@ fn ask_into<H: Host, S: Sink>(
     specifier: NameId,
     request: Request,
 ) -> Result<(), Stopped>
-    ensures { (sink.new, is_ok result) ≡ feed after sink.old (lists.into (trace_at (program host.now) place) specifier (lists.asking (trace_at (program host.now) place) (wanted_of request))) }
+    ensures { (sink.new, is_ok result) ≡ feed S.after sink.old (lists.into (trace_at (H.program host.now) place) specifier (lists.asking (trace_at (H.program host.now) place) (wanted_of request))) }
 {
     match destination_of(host, place, specifier) {
         Destination::Nowhere => Ok(()),
@@ -57,7 +57,7 @@ fn ask_below<S: Sink>(
     referrer: SymbolId,
     path: Path,
 ) -> Result<(), Stopped>
-    ensures { (sink.new, is_ok result) ≡ feed after sink.old (lists.given (λ x. meaning.reached (meaning.below x referrer (names_of path)) ∷ []) target) }
+    ensures { (sink.new, is_ok result) ≡ feed S.after sink.old (lists.given (λ x. meaning.reached (meaning.below x referrer (names_of path)) ∷ []) target) }
 {
     match target {
         None => Ok(()),
@@ -83,7 +83,7 @@ fn visit_dep<H: Host, S: Sink>(
     symbol: SymbolId,
     dep: SymbolNodeDep,
 ) -> Result<(), Stopped>
-    ensures { (sink.new, is_ok result) ≡ feed after sink.old (lists.dep_gives (trace_at (program host.now) place) symbol dep) }
+    ensures { (sink.new, is_ok result) ≡ feed S.after sink.old (lists.dep_gives (trace_at (H.program host.now) place) symbol dep) }
 {
     match dep {
         SymbolNodeDep::Id(target, how) => match target {
@@ -106,8 +106,8 @@ fn visit_deps<H: Host, S: Sink>(
     decl: usize,
     count: usize,
 ) -> Result<(), Stopped>
-    requires { count ≡ length (within deps_of (decl_at (program host.now) place.at symbol decl)) }
-    ensures { (sink.new, is_ok result) ≡ feed after sink.old (lists.each (lists.dep_gives (trace_at (program host.now) place) symbol) (within deps_of (decl_at (program host.now) place.at symbol decl))) }
+    requires { count ≡ length (within deps_of (decl_at (H.program host.now) place.at symbol decl)) }
+    ensures { (sink.new, is_ok result) ≡ feed S.after sink.old (lists.each (lists.dep_gives (trace_at (H.program host.now) place) symbol) (within deps_of (decl_at (H.program host.now) place.at symbol decl))) }
 {
     for index in 0..count {
         if let Some(dep) = host.dep(place.at, symbol, decl, index) {
