@@ -1,10 +1,10 @@
 -- One step of a way, and of the search for the redirect that it takes. Assumes nothing.
-use Rattle.std.specs.Prelude.{◌≡◌, ℕ, zero, suc, ◌+◌, ◌-◌, ◌<◌, ◌≤◌, Bool, true, false, cond, ◌&&◌, ◌||◌, ◌⊎◌, List, [], ◌∷◌, ◌++◌, length, get_or, drop, Some, None, Decides, MatchBool, Option, ◌==◌, nat_eq, slice_index_or, refl}
-use Rattle.std.proofs.Common.{sym, ap, ◌∙◌, inl, inr, arith}
+use Rattle.std.specs.Prelude.{◌≡◌, ℕ, zero, suc, ◌+◌, ◌<◌, ◌≤◌, Bool, true, false, cond, ◌&&◌, List, [], ◌∷◌, ◌++◌, length, get_or, drop, Some, None, Decides, Option, ◌==◌, nat_eq, slice_index_or, refl}
+use Rattle.std.proofs.Common.{sym, ap, ◌∙◌, arith}
 use Rattle.std.proofs.lemmas.List.{at_drop_more, at_drop_all}
-use Rattle.std.proofs.lemmas.Bool.{true≢false}
+use Rattle.std.proofs.lemmas.Bool.{eqb-true, eqb-false, true≢false}
 use Rattle.std.proofs.lemmas.Bool.Decides.{Decides-by_or, Decides-eqb, same_from_decides}
-use Rattle.std.specs.List.{HoldsAt, AllWithin, IsAnyAnswer}
+use Rattle.std.specs.List.{HoldsAt, IsAnyAnswer}
 use Rattle.ids.specs.declared.numbers.ModuleId.{ModuleId}
 use Rattle.redirects.specs.Following.{stays, usable, next, seen_before, walk}
 use Rattle.redirects.specs.declared.redirect.Redirect.{Redirect}
@@ -35,12 +35,12 @@ module _ (n : ℕ) (rs : List Redirect) (m : ModuleId) (i : ℕ) (d : Redirect) 
 
 -- whether a module has been seen, as `contains` answers it
 
-pub contains_seen : (t : ModuleId) (seen : List ModuleId) (r : Bool) → IsAnyAnswer (λ s b. Decides b (s.0 ≡ t.0)) seen r → r ≡ seen_before t seen
+pub contains_seen : (t : ModuleId) (seen : List ModuleId) (r : Bool) → IsAnyAnswer (λ s b. (s.0 == t.0) ≡ b) seen r → r ≡ seen_before t seen
 contains_seen t seen r h = same_from_decides r (seen_before t seen) (found r h) (Decides-by_or (λ s. nat_eq s.0 t.0) (λ s. s.0 ≡ t.0) (seen_before t) (λ s. Decides-eqb s.0 t.0) refl (λ _ _. refl) seen)
   where
-    found : (r : Bool) → IsAnyAnswer (λ s b. Decides b (s.0 ≡ t.0)) seen r → Decides r ((k : ℕ) × (k < length seen) × HoldsAt (λ s. s.0 ≡ t.0) seen k)
-    found true h = (λ _. (h.0, h.1, λ d. (h.2 d).0 refl), λ _. refl)
-    found false h = (λ e. absurd (true≢false (sym e)), λ at. absurd (true≢false (sym ((h at.0 t (omega arith) at.1).1 (at.2 t)))))
+    found : (r : Bool) → IsAnyAnswer (λ s b. (s.0 == t.0) ≡ b) seen r → Decides r ((k : ℕ) × (k < length seen) × HoldsAt (λ s. s.0 ≡ t.0) seen k)
+    found true h = (λ _. (h.0, h.1, λ d. eqb-true _ _ (h.2 d)), λ _. refl)
+    found false h = (λ e. absurd (true≢false (sym e)), λ at. absurd (eqb-false _ _ (h at.0 t (omega arith) at.1) (at.2 t)))
 
 -- the way, one module on
 

@@ -9,7 +9,7 @@ returns-in-Some g c =
     let n = length (g.H.Host.program c.args.host).modules in
     let rs = vec_items c.args.redirects in
     let is : refusal n rs ≡ Some c.in-Some.refusal = sym (ap (λ k. refusal k rs) c.modules.ensures) ∙ sym (ap (refusal c.modules.result) c.deref.ensures.value) ∙ sym c.in-Some.ensures in
-    record { parts = refl; why = says n rs c.in-Some.refusal is; number = its_number n rs c.in-Some.refusal is; alone = one_alone n rs; none-passed-over = tt; examples = worked }
+    record { parts = refl; why = says n rs c.in-Some.refusal is; number = its_number n rs c.in-Some.refusal is; alone = one_alone n rs; none_passed_over = tt; examples = worked }
 
 pub returns-in-None : goal.returns-in-None
 returns-in-None g c =
@@ -17,4 +17,4 @@ returns-in-None g c =
     let n = length p.modules in
     let rs = vec_items c.args.redirects in
     let is : refusal n rs ≡ None = sym (ap (λ k. refusal k rs) c.modules.ensures) ∙ sym (ap (refusal c.modules.result) c.deref.ensures.value) ∙ sym c.in-None.ensures in
-    record { parts = (refl, refl); why = fits n rs is; number = no_number n rs is; alone = one_alone n rs; none-passed-over = all_usable n rs (fits n rs is).inside; examples = worked }
+    record { parts = (refl, refl); why = fits n rs is; number = no_number n rs is; alone = one_alone n rs; none_passed_over = all_usable n rs (fits n rs is).inside; examples = worked }
