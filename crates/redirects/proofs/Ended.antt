@@ -7,7 +7,7 @@ use Rattle.ids.specs.declared.numbers.ModuleId.{ModuleId}
 use Rattle.redirects.specs.Ends.{Goes, NoneStarts, Seen, Way, stay, go, Stops, none_starts, comes_back, ten_seen, Ends}
 use Rattle.redirects.specs.Following.{seen_limit, next, seen_before, walk, followed}
 use Rattle.redirects.specs.declared.redirect.Redirect.{Redirect}
-use Rattle.redirects.specs.Steps.{walk_none, walk_seen, walk_on}
+use Rattle.redirects.proofs.Steps.{walk_none, walk_seen, walk_on}
 
 -- what a search for a redirect tells
 

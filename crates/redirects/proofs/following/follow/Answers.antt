@@ -1,7 +1,7 @@
 use Rattle.std.proofs.Common.{◌≡◌, suc, ◌+◌, ◌-◌, true, false, take, sym, refl, ap, ◌∙◌, arith}
 use Rattle.std.proofs.lemmas.List.{length-set, take_more_set}
 use Rattle.redirects.specs.Following.{usable, seen_before, walk, followed}
-use Rattle.redirects.specs.Steps.{contains_seen, walk_none, walk_seen, walk_on}
+use Rattle.redirects.proofs.Steps.{contains_seen, walk_none, walk_seen, walk_on}
 use Rattle.redirects.proofs.following.follow.Goals as goal
 
 pub loop-count-init : goal.loop-count-init

@@ -1,6 +1,6 @@
 use Rattle.std.proofs.Common.{sym, ◌∙◌}
 use Rattle.std.proofs.lemmas.Bool.{lt-ltb, le-ltb, and_from, and_left, and_right}
-use Rattle.redirects.specs.Steps.{next_taken, next_left, next_all}
+use Rattle.redirects.proofs.Steps.{next_taken, next_left, next_all}
 use Rattle.redirects.proofs.following.next.Goals as goal
 use Rattle.redirects.proofs.following.next.Goals.{else-eq-via-then-eq+else-redirect-modules, else-eq-via-else-eq}
 
