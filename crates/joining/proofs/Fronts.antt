@@ -1,5 +1,5 @@
 -- To cover is to be a front. Assumes nothing.
-use Rattle.std.proofs.Common.{◌≡◌, Bool, true, false, ◌&&◌, eqb, List, [], ◌∷◌, ◌++◌, Decides, sym, refl, ap, ◌∙◌}
+use Rattle.std.proofs.Common.{◌≡◌, true, eqb, List, [], ◌∷◌, ◌++◌, Decides, sym, refl, ap, ◌∙◌}
 use Rattle.std.proofs.lemmas.Bool.{eqb-true, eq-eqb, and_parts, and_from, false≢true}
 use Rattle.ids.specs.declared.numbers.NameId.{NameId}
 use Rattle.joining.specs.Covering.{covers, Front}

@@ -1,12 +1,12 @@
 -- The laws of joining, for every record and request. Assumes nothing.
-use Rattle.std.proofs.Common.{◌≡◌, Bool, true, false, cond, not, ◌&&◌, ◌||◌, List, [], ◌∷◌, ◌++◌, Some, None, Option, sym, refl, ap, ◌∙◌, subst}
-use Rattle.std.proofs.lemmas.Bool.{false≢true, true≢false, cond-true, cond-false, not-true, not_from_false, or_left, or_right, or_from}
+use Rattle.std.proofs.Common.{◌≡◌, Bool, true, false, cond, not, ◌&&◌, ◌||◌, List, [], ◌∷◌, ◌++◌, Some, None, sym, refl, ap, ◌∙◌, subst}
+use Rattle.std.proofs.lemmas.Bool.{false≢true, true≢false, cond-true, cond-false, not-true, not_from_false, or_left, or_right}
 use Rattle.ids.specs.declared.numbers.NameId.{NameId}
 use Rattle.ids.specs.declared.path_struct.Path.{Path}
 use Rattle.ids.specs.Paths.{names_of, default_path}
 use Rattle.joining.specs.Covering.{covers, of_default}
-use Rattle.joining.specs.Joining.{Record, star, full, kept, some_covers, some_of_default, default_names, uncovered, joined, handed, joined_paths, joined_record}
-use Rattle.joining.specs.Laws.{covers_record, covers_request, covers_handed, meets_default, New, Lawful, is_star, keeps_of_default, star_meets_default, CoversBoth}
+use Rattle.joining.specs.Joining.{Record, star, full, kept, some_covers, some_of_default, default_names, uncovered, joined, handed, joined_paths}
+use Rattle.joining.specs.Laws.{covers_record, covers_request, covers_handed, meets_default, New, Lawful, is_star, CoversBoth}
 use Rattle.joining.specs.declared.requests.Request.{Request}
 use Rattle.joining.specs.declared.requests.Request.TheVariants.{Path as Ask, Star, Full}
 use Rattle.joining.proofs.Covered.{covers_self, path_begins, default_covers, some_chain, some_default, some_above_default, with_path, fresh, fresh_uncovered, fresh_not_default}

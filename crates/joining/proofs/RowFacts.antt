@@ -1,17 +1,16 @@
 -- Facts on the rows of a table. Assumes nothing.
-use Rattle.std.proofs.Common.{◌≡◌, ℕ, zero, suc, ◌+◌, ◌<◌, ◌≤◌, Bool, true, false, cond, not, ◌&&◌, ◌||◌, eqb, List, [], ◌∷◌, ◌++◌, length, get_or, take, drop, filter, sym, refl, ap, ◌∙◌, subst, arith}
+use Rattle.std.proofs.Common.{◌≡◌, ℕ, zero, suc, ◌+◌, ◌<◌, ◌≤◌, Bool, true, false, cond, not, ◌&&◌, ◌||◌, List, [], ◌∷◌, ◌++◌, length, get_or, take, drop, filter, sym, refl, ap, ◌∙◌, arith}
 use Rattle.std.proofs.lemmas.List.{drop_more, take_more}
-use Rattle.std.proofs.lemmas.Bool.{and_parts, and_from, eqb-true, eq-eqb, ne_eqb, false≢true, not-true, not_from_false, or_parts, or_from}
+use Rattle.std.proofs.lemmas.Bool.{and_parts, and_from, eqb-true, eq-eqb, not-true, or_parts}
 use Rattle.std.specs.List.{slice_get}
 use Rattle.ids.specs.declared.numbers.ModuleId.{ModuleId}
 use Rattle.ids.specs.declared.numbers.NameId.{NameId}
 use Rattle.ids.specs.declared.path_struct.Path.{Path}
 use Rattle.ids.specs.Paths.{names_of}
-use Rattle.joining.specs.Covering.{covers, of_default}
-use Rattle.joining.specs.Joining.{any, some_covers, uncovered, Record, star, full, kept, rows_in}
+use Rattle.joining.specs.Covering.{covers}
+use Rattle.joining.specs.Joining.{any, some_covers, uncovered}
 use Rattle.joining.specs.Rows.{of_module, paths_of, stays, clash, alone, apart, keeps_paths, tidy, Antichain}
 use Rattle.joining.specs.declared.rows.Extent.{Extent}
-use Rattle.joining.specs.declared.rows.Extent.TheVariants.{Paths, Star, Full}
 use Rattle.joining.specs.declared.rows.Row.{Row}
 
 -- a search through the rows of a module, one row on

@@ -1,15 +1,14 @@
 -- How the rows and extents of a table tell its records, and what a change of them does. Assumes nothing.
-use Rattle.std.proofs.Common.{◌≡◌, ℕ, zero, suc, ◌+◌, ◌-◌, ◌<◌, ◌≤◌, Bool, true, false, cond, not, ◌&&◌, ◌||◌, eqb, ltb, leb, List, [], ◌∷◌, ◌++◌, length, get_or, set, replicate, is_some, Some, None, vec_items, vec_len, filter, Option, unwrap_or, sym, refl, ap, ◌∙◌, subst, arith, length-append, length-set}
+use Rattle.std.proofs.Common.{◌≡◌, ℕ, zero, suc, ◌+◌, ◌-◌, ◌<◌, ◌≤◌, Bool, true, false, cond, ◌&&◌, ltb, leb, List, [], ◌∷◌, ◌++◌, length, get_or, set, replicate, is_some, Some, None, vec_items, vec_len, filter, Option, unwrap_or, sym, refl, ap, ◌∙◌, subst, arith, length-set}
 use Rattle.std.proofs.lemmas.List.{get_or-set_same, get_or-set_other, append-nil, length_push}
 use Rattle.std.proofs.lemmas.Bool.{and_parts, and_from, eqb-true, false≢true, true≢false, cond-true, cond-false, ne_eqb, eq-eqb, lt-ltb, ltb-true, le-leb, leb-true}
 use Rattle.std.specs.List.{slice_get}
 use Rattle.ids.specs.declared.numbers.ModuleId.{ModuleId}
-use Rattle.ids.specs.declared.numbers.NameId.{NameId}
 use Rattle.ids.specs.declared.path_struct.Path.{Path}
 use Rattle.ids.specs.Paths.{names_of, default_path}
-use Rattle.joining.specs.Covering.{covers, of_default}
+use Rattle.joining.specs.Covering.{of_default}
 use Rattle.joining.specs.Joining.{Record, star, full, kept, nothing, some_covers, some_of_default, default_names, uncovered, joined, handed, joined_paths, rows_in}
-use Rattle.joining.specs.Rows.{of_module, paths_of, stays, apart, keeps_paths, tidy, shaped, record_at}
+use Rattle.joining.specs.Rows.{of_module, paths_of, stays, keeps_paths, tidy, shaped, record_at}
 use Rattle.joining.specs.Tables.{modules, used, record_of, refusal, Changes}
 use Rattle.joining.specs.declared.records_struct.Records.{Records}
 use Rattle.joining.specs.declared.requests.Request.TheVariants.{Path as Ask, Star as AskStar, Full as AskFull}

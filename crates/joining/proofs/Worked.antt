@@ -1,6 +1,5 @@
 -- The worked examples. Assumes nothing.
-use Rattle.std.proofs.Common.{◌≡◌, true, false, ◌||◌, [], ◌∷◌, sym, refl, ap, ◌∙◌}
-use Rattle.ids.specs.Names.{default_name}
+use Rattle.std.proofs.Common.{◌≡◌, true, [], ◌∷◌, refl}
 use Rattle.ids.specs.Paths.{names_of}
 use Rattle.ids.specs.declared.numbers.NameId.{NameId}
 use Rattle.ids.specs.declared.path_struct.Path.{Path}

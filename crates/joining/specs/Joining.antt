@@ -1,5 +1,5 @@
 -- Requests, records, and what joining one to the other makes. Assumes nothing.
-use Rattle.std.specs.Prelude.{ℕ, Bool, true, false, cond, not, ◌&&◌, ◌||◌, List, [], ◌∷◌, ◌++◌, length, Some, None, filter, Option}
+use Rattle.std.specs.Prelude.{ℕ, Bool, false, cond, not, ◌&&◌, ◌||◌, List, [], ◌∷◌, ◌++◌, length, Some, None, filter, Option}
 use Rattle.ids.specs.declared.numbers.NameId.{NameId}
 use Rattle.ids.specs.declared.path_struct.Path.{Path}
 use Rattle.ids.specs.Names.{default_name}

@@ -1,5 +1,5 @@
 -- What a table of records tells, and how a call changes it. Assumes nothing.
-use Rattle.std.specs.Prelude.{◌≡◌, ℕ, ◌+◌, ◌-◌, Bool, true, false, cond, ◌&&◌, length, Some, None, Ok, Err, vec_items, vec_len, Option, Result, ◌≢◌, nat_le, nat_lt, slice_index_or}
+use Rattle.std.specs.Prelude.{◌≡◌, ℕ, ◌+◌, ◌-◌, cond, length, Some, None, Ok, Err, vec_items, vec_len, Option, Result, ◌≢◌, nat_le, nat_lt, slice_index_or}
 use Rattle.ids.specs.declared.numbers.ModuleId.{ModuleId}
 use Rattle.joining.specs.Joining.{Record, joined, handed, joined_record, nothing, rows_in}
 use Rattle.joining.specs.Laws.{Lawful, CoversBoth}

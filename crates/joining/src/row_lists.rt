@@ -44,14 +44,14 @@ impl Test for OfDefault {
 
 // Whether a row is of `module` and its path passes the test.
 fn hits<T: Test>(row: &Row, module: ModuleId, test: &T) -> bool
-    ensures { result ≡ (spec.of_module «module» row.now && passes test.now row.now.path) }
+    ensures { result ≡ (spec.of_module «module» row.now && T.passes test.now row.now.path) }
 {
     row.module == module && test.test(&row.path)
 }
 
 // Whether a kept path of `module` passes the test.
 pub(crate) fn any<T: Test>(rows: &[Row], module: ModuleId, test: &T) -> bool
-    ensures { result ≡ joining.any (passes test.now) (spec.paths_of «module» rows.now) }
+    ensures { result ≡ joining.any (T.passes test.now) (spec.paths_of «module» rows.now) }
 {
     for row in rows {
         if hits(row, module, test) {

@@ -1,5 +1,5 @@
 -- Export-alls followed one after another. Assumes nothing.
-use Rattle.std.proofs.Common.{◌≡◌, ℕ, zero, suc, ◌+◌, ◌<◌, ◌≤◌, Bool, true, false, ◌⊎◌, List, [], ◌∷◌, length, get_or, set, is_some, Some, None, Option, sym, refl, ap, ◌∙◌, subst, inl, inr, arith, length-set}
+use Rattle.std.proofs.Common.{◌≡◌, ℕ, zero, suc, ◌<◌, ◌≤◌, ◌⊎◌, List, [], ◌∷◌, length, get_or, set, is_some, Some, sym, refl, ap, ◌∙◌, subst, inl, inr, arith, length-set}
 use Rattle.std.proofs.lemmas.List.{get_or-set_same, get_or-set_other}
 use Rattle.std.proofs.lemmas.Bool.{cases_eq, true≢false}
 use Rattle.std.specs.List.{slice_get}
@@ -7,7 +7,7 @@ use Rattle.ids.specs.declared.numbers.ModuleId.{ModuleId}
 use Rattle.host.specs.Lookups.{within, module_at, re_export_all_at}
 use Rattle.host.specs.Program.{Program}
 use Rattle.host.specs.declared.told.ReExportAll.{ReExportAll}
-use Rattle.offering.specs.Marks.{mark_of, Met, met, undone}
+use Rattle.offering.specs.Marks.{mark_of, Met, met}
 use Rattle.offering.specs.Offers.{Leads}
 use Rattle.resolution.specs.Targets.{target, stands}
 use Rattle.offering.specs.Walks.{Followed, Visited}

@@ -1,6 +1,5 @@
 -- Offering agrees with GetExportedNames. Assumes nothing.
-use Rattle.std.proofs.Common.{◌≡◌, Bool, true, false, ◌⊎◌, Decides, sym, refl, ◌∙◌, inl, inr}
-use Rattle.std.proofs.lemmas.Bool.{true≢false}
+use Rattle.std.proofs.Common.{◌≡◌, Bool, true, false, Decides, sym, refl}
 use Rattle.ids.specs.declared.numbers.ModuleId.{ModuleId}
 use Rattle.ids.specs.declared.numbers.NameId.{NameId}
 use Rattle.host.specs.Program.{Program}

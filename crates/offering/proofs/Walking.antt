@@ -1,18 +1,18 @@
 -- A walk that meets everything and finds nothing has shown that nothing is there. Assumes nothing.
-use Rattle.std.proofs.Common.{◌≡◌, ℕ, zero, suc, ◌+◌, ◌<◌, ◌≤◌, Bool, true, false, ◌⊎◌, List, [], ◌∷◌, length, get_or, replicate, is_some, Some, None, Option, sym, refl, ap, ◌∙◌, subst, inl, inr, arith}
+use Rattle.std.proofs.Common.{◌≡◌, ℕ, zero, suc, ◌<◌, ◌≤◌, true, false, ◌⊎◌, List, [], ◌∷◌, length, get_or, replicate, is_some, None, sym, refl, ap, ◌∙◌, subst, inl, inr, arith}
 use lib.ListN.{length-replicate}
 use Rattle.std.proofs.lemmas.Option.{slice_get_past}
-use Rattle.std.proofs.lemmas.Bool.{cases_eq, cases_lt, true≢false, false≢true}
+use Rattle.std.proofs.lemmas.Bool.{cases_eq, cases_lt, true≢false}
 use Rattle.std.specs.List.{slice_get}
 use Rattle.ids.specs.declared.numbers.ModuleId.{ModuleId}
 use Rattle.ids.specs.declared.numbers.NameId.{NameId}
 use Rattle.host.specs.Lookups.{within, module_at}
-use Rattle.host.specs.Program.{Program, Module}
+use Rattle.host.specs.Program.{Program}
 use Rattle.offering.specs.Marks.{mark_of, Met, met}
 use Rattle.offering.specs.Offers.{Leads, Offers, own, passed}
 use Rattle.resolution.specs.Targets.{stands, exports, has_export, module_symbol}
 use Rattle.offering.specs.Walks.{Visited, Walked}
-use Rattle.offering.proofs.Meeting.{met_length, met_mark, met_still, met_itself, met_done}
+use Rattle.offering.proofs.Meeting.{met_length, met_mark, met_itself, met_done}
 
 same_module : (x y : ModuleId) → x.0 ≡ y.0 → x ≡ y
 same_module x y e = ap (λ n. record { 0 = n }) e

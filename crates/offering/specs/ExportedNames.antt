@@ -1,7 +1,7 @@
 -- GetExportedNames of ECMA-262, of source text modules, over the records. Assumes nothing.
 -- The local and indirect export entries of a module are the exports of its symbol 0; its star export entries are its export-alls;
 -- the module that an entry requests is the one that stands for the target of its specifier. An entry that leads nowhere brings nothing.
-use Rattle.std.specs.Prelude.{◌≡◌, ℕ, Bool, true, false, cond, ◌||◌, List, [], ◌∷◌, ◌++◌, map, Some, None, Option, ◌==◌}
+use Rattle.std.specs.Prelude.{◌≡◌, Bool, true, false, cond, ◌||◌, List, [], ◌∷◌, ◌++◌, map, Some, None, ◌==◌}
 use Rattle.ids.specs.declared.numbers.ModuleId.{ModuleId}
 use Rattle.ids.specs.declared.numbers.NameId.{NameId}
 use Rattle.host.specs.Lookups.{within, module_at, symbol_at}

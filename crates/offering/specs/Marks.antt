@@ -1,5 +1,5 @@
 -- Marks of modules, one byte each: 0 for one that was not met, 1 for one that waits, 2 for one that is done. Assumes nothing.
-use Rattle.std.specs.Prelude.{◌≡◌, ℕ, suc, ◌<◌, Bool, true, false, cond, List, [], ◌∷◌, ◌++◌, length, drop, replicate, ◌==◌, ◌≢◌, slice_index, slice_set}
+use Rattle.std.specs.Prelude.{ℕ, suc, ◌<◌, cond, List, [], ◌∷◌, ◌++◌, length, drop, replicate, ◌==◌, ◌≢◌, slice_index, slice_set}
 use Rattle.ids.specs.declared.numbers.ModuleId.{ModuleId}
 
 abbrev pub mark_of : List ℕ → ModuleId → ℕ

@@ -13,7 +13,7 @@ use resolution::{exports, standing_module, target};
 
 // Begins a walk at what an export-all leads to: only that is met. False where it leads nowhere.
 fn begin<H: Host>(host: &H, sheet: &mut [u8], module: ModuleId, place: usize) -> bool
-    ensures { MatchBool result ((y : ModuleId) × spec.Leads (program host.now) «module» place y × (sheet.new ≡ marks.met (replicate (length sheet.old) 0) (stands (program host.now) y))) ((y : ModuleId) → spec.Leads (program host.now) «module» place y → ⊥) }
+    ensures { MatchBool result ((y : ModuleId) × spec.Leads (H.program host.now) «module» place y × (sheet.new ≡ marks.met (replicate (length sheet.old) 0) (stands (H.program host.now) y))) ((y : ModuleId) → spec.Leads (H.program host.now) «module» place y → ⊥) }
 {
     let Some(re_export_all) = host.re_export_all(module, place) else {
         return false;
@@ -28,9 +28,9 @@ fn begin<H: Host>(host: &H, sheet: &mut [u8], module: ModuleId, place: usize) ->
 
 // The place of the first export-all of a module that passes a name on.
 fn search<H: Host>(host: &H, sheet: &mut [u8], module: ModuleId, name: NameId) -> Option<usize>
-    requires long { length sheet.old ≡ length (program host.now).modules }
+    requires long { length sheet.old ≡ length (H.program host.now).modules }
     requires small { length sheet.old < 2 ^ 32 }
-    ensures { spec.First (program host.now) name «module» result }
+    ensures { spec.First (H.program host.now) name «module» result }
 {
     if name == NameId::DEFAULT {
         return None;
@@ -61,9 +61,9 @@ fn blanking_search<H: Host>(
     module: ModuleId,
     name: NameId,
 ) -> Option<usize>
-    requires long { length sheet.old ≡ length (program host.now).modules }
+    requires long { length sheet.old ≡ length (H.program host.now).modules }
     requires small { length sheet.old < 2 ^ 32 }
-    ensures first { spec.First (program host.now) name «module» result }
+    ensures first { spec.First (H.program host.now) name «module» result }
     ensures blank { sheet.new ≡ replicate (length sheet.old) 0 }
 {
     let marks = Marks(sheet);
@@ -78,7 +78,7 @@ pub fn first_offer<H: Host>(
     module: ModuleId,
     name: NameId,
 ) -> Result<Option<usize>, Refusal>
-    ensures { spec.Searched (program host.now) (spec.First (program host.now) name «module») sheet.old sheet.new result }
+    ensures { spec.Searched (H.program host.now) (spec.First (H.program host.now) name «module») sheet.old sheet.new result }
 {
     let modules = host.modules();
     if sheet.len() < modules {
@@ -94,7 +94,7 @@ fn offered_by<H: Host>(
     module: ModuleId,
     name: NameId,
 ) -> Result<bool, Refusal>
-    ensures { spec.Searched (program host.now) (spec.Offered (program host.now) name (stands (program host.now) «module»)) sheet.old sheet.new result }
+    ensures { spec.Searched (H.program host.now) (spec.Offered (H.program host.now) name (stands (H.program host.now) «module»)) sheet.old sheet.new result }
 {
     let standing = standing_module(host, module);
     let passed = first_offer(host, sheet, standing, name)?;
@@ -109,7 +109,7 @@ pub fn offers<H: Host>(
     module: ModuleId,
     name: NameId,
 ) -> Result<bool, Refusal>
-    ensures { spec.Searched (program host.now) (spec.Offered (program host.now) name (stands (program host.now) «module»)) sheet.old sheet.new result }
+    ensures { spec.Searched (H.program host.now) (spec.Offered (H.program host.now) name (stands (H.program host.now) «module»)) sheet.old sheet.new result }
 {
     offered_by(host, sheet, module, name)
 }

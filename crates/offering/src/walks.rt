@@ -10,7 +10,7 @@ use resolution::{standing_module, target};
 
 // Follows the export-all of a module at a place: what it leads to is met.
 fn follow<H: Host>(host: &H, marks: &mut [u8], module: ModuleId, place: usize)
-    ensures { spec.Followed (program host.now) «module» (λ i. i ≡ place) marks.old marks.new }
+    ensures { spec.Followed (H.program host.now) «module» (λ i. i ≡ place) marks.old marks.new }
 {
     let Some(re_export_all) = host.re_export_all(module, place) else {
         return;
@@ -23,7 +23,7 @@ fn follow<H: Host>(host: &H, marks: &mut [u8], module: ModuleId, place: usize)
 
 // Follows all export-alls of a module.
 fn follow_all<H: Host>(host: &H, marks: &mut [u8], module: ModuleId)
-    ensures { spec.Followed (program host.now) «module» (λ i. Unit {0}) marks.old marks.new }
+    ensures { spec.Followed (H.program host.now) «module» (λ i. Unit {0}) marks.old marks.new }
 {
     let Some(info) = host.module(module) else {
         return;
@@ -37,7 +37,7 @@ fn follow_all<H: Host>(host: &H, marks: &mut [u8], module: ModuleId)
 pub(crate) fn visit<H: Host>(host: &H, marks: &mut [u8], module: ModuleId)
     requires inside { «module».0 < length marks.old }
     requires waits { mark_of marks.old «module» ≡ 1 }
-    ensures { spec.Visited (program host.now) «module» marks.old marks.new }
+    ensures { spec.Visited (H.program host.now) «module» marks.old marks.new }
 {
     finish(marks, module);
     follow_all(host, marks, module);

@@ -1,5 +1,5 @@
 -- The definitions of targets, standing modules and exports say what the laws say. Assumes nothing.
-use Rattle.std.proofs.Common.{◌≡◌, ℕ, zero, suc, ◌≤◌, Bool, true, false, cond, ◌||◌, eqb, ◌⊎◌, List, [], ◌∷◌, is_some, Some, None, Decides, Option, sym, refl, ap, ◌∙◌, subst, inl, inr, arith}
+use Rattle.std.proofs.Common.{◌≡◌, ℕ, zero, suc, ◌≤◌, Bool, true, false, cond, eqb, ◌⊎◌, List, [], ◌∷◌, is_some, Some, None, Decides, Option, sym, refl, ap, ◌∙◌, subst, inl, inr, arith}
 use Rattle.std.proofs.lemmas.Bool.{eqb-true, eq-eqb, true≢false, false≢true, or_cases, or_left, or_right}
 use Rattle.std.specs.List.{slice_get}
 use Rattle.ids.specs.declared.numbers.ModuleId.{ModuleId}
@@ -8,7 +8,7 @@ use Rattle.host.specs.Lookups.{within, module_at, symbol_at}
 use Rattle.host.specs.Program.{Program}
 use Rattle.host.specs.declared.told.Dependency.{Dependency}
 use Rattle.host.specs.declared.told.Export.{Export}
-use Rattle.resolution.specs.Laws.{Aims, IsMissing, IsThere, TargetOf, lacking, nowhere, lost, itself, untyped, typed, Steps, Way, stay, step, StandsFor, HasExport}
+use Rattle.resolution.specs.Laws.{Aims, IsThere, TargetOf, lacking, nowhere, lost, itself, untyped, typed, Steps, Way, stay, step, StandsFor, HasExport}
 use Rattle.resolution.specs.Targets.{kind_of, types_of, is_missing, is_inside, aim, onward, with_types, led, target, entered, standing, types_steps, stands, has_export, module_symbol, exports}
 use Rattle.resolution.proofs.Standing.{standing_none, standing_more}
 

@@ -1,5 +1,5 @@
 -- What the counts that a host tells are of. Assumes nothing.
-use Rattle.std.proofs.Common.{◌≡◌, length, is_some, Some, None, Option, sym, refl, ap, ◌∙◌}
+use Rattle.std.proofs.Common.{◌≡◌, length, is_some, Some, None, Option, sym, refl, ap}
 use Rattle.std.proofs.lemmas.Bool.{true≢false}
 use Rattle.std.specs.Option.{option_map}
 use Rattle.host.specs.Lookups.{within}

@@ -1,10 +1,10 @@
 -- Where a specifier leads, and which module stands for another. Assumes nothing.
-use Rattle.std.specs.Prelude.{◌≡◌, ℕ, zero, suc, Bool, true, false, cond, not, ◌&&◌, ◌||◌, List, [], ◌∷◌, Some, None, Option, ◌==◌}
+use Rattle.std.specs.Prelude.{ℕ, zero, suc, Bool, true, false, cond, ◌||◌, List, [], ◌∷◌, Some, None, Option, ◌==◌}
 use Rattle.ids.specs.declared.numbers.ModuleId.{ModuleId}
 use Rattle.ids.specs.declared.numbers.NameId.{NameId}
 use Rattle.ids.specs.declared.numbers.SymbolId.{SymbolId}
 use Rattle.host.specs.Lookups.{within, module_at, symbol_at}
-use Rattle.host.specs.Program.{Module, Symbol, Program}
+use Rattle.host.specs.Program.{Module, Program}
 use Rattle.host.specs.declared.told.Dependency.{Dependency}
 use Rattle.host.specs.declared.told.Export.{Export}
 use Rattle.host.specs.declared.told.ModuleKind.{ModuleKind}

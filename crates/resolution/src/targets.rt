@@ -15,7 +15,7 @@ const MODULE_SYMBOL: SymbolId = SymbolId(0);
 
 // The module that a specifier aims at.
 fn aim<H: Host>(host: &H, module: ModuleId, specifier: NameId) -> Option<ModuleId>
-    ensures { result ≡ spec.aim (within (λ x. x.dependencies) (module_at (program host.now) «module»)) specifier }
+    ensures { result ≡ spec.aim (within (λ x. x.dependencies) (module_at (H.program host.now) «module»)) specifier }
 {
     let Some(info) = host.module(module) else {
         return None;
@@ -33,7 +33,7 @@ fn aim<H: Host>(host: &H, module: ModuleId, specifier: NameId) -> Option<ModuleI
 
 // What a module is; one past the last is missing.
 fn kind<H: Host>(host: &H, module: ModuleId) -> ModuleKind
-    ensures { result ≡ spec.kind_of (module_at (program host.now) «module») }
+    ensures { result ≡ spec.kind_of (module_at (H.program host.now) «module») }
 {
     match host.module(module) {
         Some(info) => info.kind,
@@ -43,7 +43,7 @@ fn kind<H: Host>(host: &H, module: ModuleId) -> ModuleKind
 
 // The module that has the types of another.
 fn types<H: Host>(host: &H, module: ModuleId) -> Option<ModuleId>
-    ensures { result ≡ spec.types_of (module_at (program host.now) «module») }
+    ensures { result ≡ spec.types_of (module_at (H.program host.now) «module») }
 {
     match host.module(module) {
         Some(info) => info.types,
@@ -53,15 +53,15 @@ fn types<H: Host>(host: &H, module: ModuleId) -> Option<ModuleId>
 
 // The target of a specifier that a module uses: the module that it aims at, or the one that has its types.
 pub(crate) fn target_of<H: Host>(host: &H, module: ModuleId, specifier: NameId) -> Option<ModuleId>
-    ensures value { result ≡ spec.target (program host.now) «module» specifier }
-    ensures law { laws.TargetOf (program host.now) «module» specifier result }
+    ensures value { result ≡ spec.target (H.program host.now) «module» specifier }
+    ensures law { laws.TargetOf (H.program host.now) «module» specifier result }
 {
     led(host, aim(host, module, specifier))
 }
 
 // Where an aim leads.
 fn led<H: Host>(host: &H, aimed: Option<ModuleId>) -> Option<ModuleId>
-    ensures { result ≡ spec.led (program host.now) aimed }
+    ensures { result ≡ spec.led (H.program host.now) aimed }
 {
     let aimed = aimed?;
     if is_missing(kind(host, aimed)) {
@@ -88,7 +88,7 @@ fn is_inside(kind: ModuleKind) -> bool
 
 // The types module of a module, unless it is missing or external.
 fn entered<H: Host>(host: &H, module: ModuleId) -> Option<ModuleId>
-    ensures { result ≡ spec.entered (program host.now) (spec.types_of (module_at (program host.now) «module»)) }
+    ensures { result ≡ spec.entered (H.program host.now) (spec.types_of (module_at (H.program host.now) «module»)) }
 {
     let types = types(host, module)?;
     if is_inside(kind(host, types)) {
@@ -100,8 +100,8 @@ fn entered<H: Host>(host: &H, module: ModuleId) -> Option<ModuleId>
 
 // The module that stands for another: from types module to types module, eight times at the most.
 pub(crate) fn standing_of<H: Host>(host: &H, module: ModuleId) -> ModuleId
-    ensures value { result ≡ spec.stands (program host.now) «module» }
-    ensures law { laws.StandsFor (program host.now) «module» result }
+    ensures value { result ≡ spec.stands (H.program host.now) «module» }
+    ensures law { laws.StandsFor (H.program host.now) «module» result }
 {
     let mut standing = module;
     for step in 0..TYPES_STEPS {
@@ -115,15 +115,15 @@ pub(crate) fn standing_of<H: Host>(host: &H, module: ModuleId) -> ModuleId
 
 // Whether a module itself exports a name.
 pub(crate) fn exported_by<H: Host>(host: &H, module: ModuleId, name: NameId) -> bool
-    ensures value { result ≡ spec.exports (program host.now) «module» name }
-    ensures law { Decides result (laws.HasExport (program host.now) «module» name) }
+    ensures value { result ≡ spec.exports (H.program host.now) «module» name }
+    ensures law { Decides result (laws.HasExport (H.program host.now) «module» name) }
 {
     has_export(host, module, MODULE_SYMBOL, name)
 }
 
 // Whether a symbol exports a name.
 fn has_export<H: Host>(host: &H, module: ModuleId, symbol: SymbolId, name: NameId) -> bool
-    ensures { result ≡ spec.has_export (within (λ x. x.exports) (symbol_at (program host.now) «module» symbol)) name }
+    ensures { result ≡ spec.has_export (within (λ x. x.exports) (symbol_at (H.program host.now) «module» symbol)) name }
 {
     let Some(info) = host.symbol(module, symbol) else {
         return false;

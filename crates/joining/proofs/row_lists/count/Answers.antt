@@ -1,5 +1,4 @@
-use Rattle.std.proofs.Common.{◌≡◌, ◌+◌, true, false, length, drop, sym, ap, ◌∙◌, arith}
-use Rattle.std.proofs.lemmas.Bool.{eq-eqb, ne_eqb, true≢false}
+use Rattle.std.proofs.Common.{◌≡◌, true, false, length, sym, ap, ◌∙◌, arith}
 use Rattle.std.proofs.lemmas.List.{drop_all}
 use Rattle.joining.specs.Rows.{of_module, paths_of}
 use Rattle.joining.proofs.RowFacts.{length_more}
@@ -13,11 +12,11 @@ loop-row-preserved c =
     let more = length_more m c.args.rows.now c.loop-row.row-index row c.loop-row-test.true c.row-item.is in
     elim c.if-eq.branch [
       | then-eq w ↦
-          let here : of_module m row ≡ true = eq-eqb _ _ (c.eq.ensures.0 w.if-eq.true) in
+          let here : of_module m row ≡ true = sym c.eq.ensures ∙ w.if-eq.true in
           let one = rw here at more in
           (omega (arith, one, w.n-is, c.loop-row.invariant.0), omega (arith, w.n-is))
       | else-eq w ↦
-          let here : of_module m row ≡ false = ne_eqb _ _ (λ e. true≢false (sym (c.eq.ensures.1 e) ∙ w.if-eq.false)) in
+          let here : of_module m row ≡ false = sym c.eq.ensures ∙ w.if-eq.false in
           let one = rw here at more in
           (omega (arith, one, w.n-is, c.loop-row.invariant.0), omega (arith, w.n-is))
     ]

@@ -1,4 +1,4 @@
-use Rattle.std.proofs.Common.{◌<◌, length, vec_items, sym, ap, ◌∙◌, arith}
+use Rattle.std.proofs.Common.{◌<◌, length, vec_items, sym, ◌∙◌, arith}
 use Rattle.std.proofs.lemmas.List.Filters.{FiltersInPlace-all, FiltersInPlace-more_no, FiltersInPlace-more_set}
 use Rattle.joining.proofs.row_lists.remove_covered.Goals as goal
 use Rattle.joining.proofs.row_lists.remove_covered.Goals.{then-stays, else-stays}

@@ -1,4 +1,4 @@
-use Rattle.std.proofs.Common.{◌≡◌, cond, eqb, set, sym, refl, ap, ◌∙◌}
+use Rattle.std.proofs.Common.{cond, eqb, set, sym, ap, ◌∙◌}
 use Rattle.std.proofs.lemmas.List.{set_past, get_or_past}
 use Rattle.offering.proofs.marks.meet.Goals as goal
 

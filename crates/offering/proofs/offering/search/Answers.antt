@@ -1,11 +1,11 @@
-use Rattle.std.proofs.Common.{◌≡◌, ℕ, ◌+◌, ◌<◌, ◌⊎◌, replicate, None, sym, refl, ap, ◌∙◌, subst, inl, inr, arith}
-use Rattle.std.proofs.lemmas.Bool.{true≢false}
+use Rattle.std.proofs.Common.{◌≡◌, ℕ, ◌+◌, ◌<◌, replicate, None, sym, ap, ◌∙◌, subst, inl, inr, arith}
+use Rattle.std.proofs.lemmas.Bool.{eq-eqb, true≢false}
 use Rattle.ids.specs.declared.numbers.ModuleId.{ModuleId}
 use Rattle.ids.specs.declared.numbers.NameId.{NameId}
 use Rattle.host.specs.Lookups.{module_at}
 use Rattle.host.specs.Program.{Program}
 use Rattle.offering.specs.Marks.{met}
-use Rattle.offering.specs.Offers.{Leads, Offers, Passes, First}
+use Rattle.offering.specs.Offers.{Offers, Passes, First}
 use Rattle.resolution.specs.Targets.{stands}
 use Rattle.offering.proofs.Following.{leads_same, leads_within}
 use Rattle.offering.proofs.Places.{before_or_at}
@@ -39,7 +39,7 @@ loop-next-preserved g c =
     let next = c.in-Some-waiting.next in
     let here = c.in-Some-waiting.ensures in
     let lacks = sym c.exports.ensures.value ∙ c.if-exports.false in
-    let not_default = λ (e : c.args.name.0 ≡ 0). true≢false (sym (c.eq.ensures.1 e) ∙ c.if-eq.false) in
+    let not_default = λ (e : c.args.name.0 ≡ 0). true≢false (sym (c.eq.ensures ∙ eq-eqb _ _ e) ∙ c.if-eq.false) in
     ((y, inv.0.1, walk_goes_on p c.args.name (stands p y) next not_default inv.0.2 here.0 here.1 lacks c.visit.ensures), inv.1)
 
 pub places-preserved : goal.places-preserved
@@ -50,7 +50,7 @@ places-preserved g c =
     let place = c.places.place in
     let inv = c.loop-next.invariant in
     let y = inv.0.0 in
-    let none = walk_ends p f (stands p y) inv.0.2 c.in-default-waiting.ensures in
+    let none = walk_ends p f (stands p y) inv.0.2 c.in_default-waiting.ensures in
     let here = λ (passes : Passes p f m place). none (subst (λ z. Offers p f (stands p z)) (leads_same p m place passes.to y passes.leads inv.0.1) passes.offers) in
     (inv.1, inv.0.2.long, no_more p f m place c.places.invariant.2 here)
 
@@ -71,5 +71,5 @@ returns-then-exports g c =
     let y = inv.0.0 in
     let next = c.in-Some-waiting.next in
     let here = c.in-Some-waiting.ensures in
-    let not_default = λ (e : c.args.name.0 ≡ 0). true≢false (sym (c.eq.ensures.1 e) ∙ c.if-eq.false) in
+    let not_default = λ (e : c.args.name.0 ≡ 0). true≢false (sym (c.eq.ensures ∙ eq-eqb _ _ e) ∙ c.if-eq.false) in
     (record { not_default = not_default; to = y; leads = inv.0.1; offers = walk_finds p c.args.name (stands p y) next inv.0.2 here.0 here.1 (sym c.exports.ensures.value ∙ c.if-exports.true) }, c.places.invariant.2)

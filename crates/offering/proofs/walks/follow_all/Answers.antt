@@ -1,15 +1,15 @@
-use Rattle.std.proofs.Common.{◌≡◌, ◌+◌, ◌<◌, sym, ap, ◌∙◌, arith}
+use Rattle.std.proofs.Common.{◌≡◌, ◌+◌, ◌<◌, sym, arith}
 use Rattle.host.specs.Lookups.{module_at}
 use Rattle.offering.proofs.Following.{followed_none, followed_both, followed_wider, leads_within}
 use Rattle.offering.proofs.Places.{before_or_at}
 use Rattle.resolution.proofs.Told.{counts, nothing_told}
 use Rattle.offering.proofs.walks.follow_all.Goals as goal
 
-pub returns-in-default : goal.returns-in-default
-returns-in-default g c =
+pub returns-in_default : goal.returns-in_default
+returns-in_default g c =
     let p = g.H.Host.program c.args.host.now in
     let m = c.args.«module» in
-    let none = nothing_told (module_at p m) (sym c.in-default.ensures) in
+    let none = nothing_told (module_at p m) (sym c.in_default.ensures) in
     followed_none p m (λ i. Unit {0}) c.args.marks.now (λ i y at leads. omega (arith, none, leads_within p m i y leads))
 
 pub loop-place-init : goal.loop-place-init

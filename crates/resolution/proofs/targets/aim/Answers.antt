@@ -1,16 +1,15 @@
-use Rattle.std.proofs.Common.{◌≡◌, ◌+◌, cond, eqb, length, drop, sym, refl, ap, ◌∙◌, arith}
+use Rattle.std.proofs.Common.{◌+◌, cond, drop, sym, ap, ◌∙◌, arith}
 use Rattle.std.proofs.lemmas.List.{drop_all}
-use Rattle.std.proofs.lemmas.Bool.{eq-eqb, ne_eqb, true≢false}
 use Rattle.host.specs.Lookups.{within, module_at}
 use Rattle.resolution.specs.Targets as spec
 use Rattle.resolution.proofs.Places.{drop_nth, nth_none}
 use Rattle.resolution.proofs.Told.{counts}
 use Rattle.resolution.proofs.targets.aim.Goals as goal
 
-pub returns-in-default-dependency : goal.returns-in-default-dependency
-returns-in-default-dependency g c =
+pub returns-in_default-dependency : goal.returns-in_default-dependency
+returns-in_default-dependency g c =
     let ds = within (λ x. x.dependencies) (module_at (g.H.Host.program c.args.host.now) c.args.«module») in
-    let past = nth_none ds c.loop-place.place (sym c.in-default-dependency.ensures) in
+    let past = nth_none ds c.loop-place.place (sym c.in_default-dependency.ensures) in
     sym (ap (λ l. spec.aim l c.args.specifier) (drop_all c.loop-place.place ds past)) ∙ c.loop-place.invariant
 
 pub returns-then-eq : goal.returns-then-eq
@@ -19,7 +18,7 @@ returns-then-eq g c =
     let ds = within (λ x. x.dependencies) (module_at (g.H.Host.program c.args.host.now) c.args.«module») in
     let d = c.in-Some-dependency.dependency in
     let cut = drop_nth ds c.loop-place.place d (sym c.in-Some-dependency.ensures) in
-    let same = eq-eqb d.specifier.0 n.0 (c.eq.ensures.0 c.if-eq.true) in
+    let same = sym c.eq.ensures ∙ c.if-eq.true in
     let rest = spec.aim (drop (c.loop-place.place + 1) ds) n in
     sym (ap (λ b. cond b d.target rest) same) ∙ sym (ap (λ l. spec.aim l n) cut) ∙ c.loop-place.invariant
 
@@ -29,7 +28,7 @@ loop-place-preserved g c =
     let ds = within (λ x. x.dependencies) (module_at (g.H.Host.program c.args.host.now) c.args.«module») in
     let d = c.in-Some-dependency.dependency in
     let cut = drop_nth ds c.loop-place.place d (sym c.in-Some-dependency.ensures) in
-    let other = ne_eqb d.specifier.0 n.0 (λ e. true≢false (sym (c.eq.ensures.1 e) ∙ c.if-eq.false)) in
+    let other = sym c.eq.ensures ∙ c.if-eq.false in
     let rest = spec.aim (drop (c.loop-place.place + 1) ds) n in
     sym (ap (λ b. cond b d.target rest) other) ∙ sym (ap (λ l. spec.aim l n) cut) ∙ c.loop-place.invariant
 

@@ -1,4 +1,4 @@
-use Rattle.std.proofs.Common.{◌≡◌, Decides, sym, subst}
+use Rattle.std.proofs.Common.{Decides, sym, subst}
 use Rattle.resolution.proofs.Lawful.{exports_lawful}
 use Rattle.resolution.specs.Laws.{HasExport}
 use Rattle.resolution.proofs.targets.exported_by.Goals as goal

@@ -1,16 +1,15 @@
-use Rattle.std.proofs.Common.{◌≡◌, ◌+◌, ◌||◌, eqb, length, drop, sym, refl, ap, ◌∙◌, arith}
+use Rattle.std.proofs.Common.{◌+◌, ◌||◌, drop, sym, ap, ◌∙◌, arith}
 use Rattle.std.proofs.lemmas.List.{drop_all}
-use Rattle.std.proofs.lemmas.Bool.{eq-eqb, ne_eqb, true≢false}
 use Rattle.host.specs.Lookups.{within, symbol_at}
 use Rattle.resolution.specs.Targets as spec
 use Rattle.resolution.proofs.Places.{drop_nth, nth_none}
 use Rattle.resolution.proofs.Told.{export_count}
 use Rattle.resolution.proofs.targets.has_export.Goals as goal
 
-pub returns-in-default-export : goal.returns-in-default-export
-returns-in-default-export g c =
+pub returns-in_default-export : goal.returns-in_default-export
+returns-in_default-export g c =
     let ds = within (λ x. x.exports) (symbol_at (g.H.Host.program c.args.host.now) c.args.«module» c.args.symbol) in
-    let past = nth_none ds c.loop-place.place (sym c.in-default-export.ensures) in
+    let past = nth_none ds c.loop-place.place (sym c.in_default-export.ensures) in
     sym (ap (λ l. spec.has_export l c.args.name) (drop_all c.loop-place.place ds past)) ∙ c.loop-place.invariant
 
 pub returns-then-eq : goal.returns-then-eq
@@ -19,7 +18,7 @@ returns-then-eq g c =
     let ds = within (λ x. x.exports) (symbol_at (g.H.Host.program c.args.host.now) c.args.«module» c.args.symbol) in
     let d = c.in-Some-export.export in
     let cut = drop_nth ds c.loop-place.place d (sym c.in-Some-export.ensures) in
-    let same = eq-eqb d.name.0 n.0 (c.eq.ensures.0 c.if-eq.true) in
+    let same = sym c.eq.ensures ∙ c.if-eq.true in
     let rest = spec.has_export (drop (c.loop-place.place + 1) ds) n in
     sym (ap (λ b. b || rest) same) ∙ sym (ap (λ l. spec.has_export l n) cut) ∙ c.loop-place.invariant
 
@@ -29,7 +28,7 @@ loop-place-preserved g c =
     let ds = within (λ x. x.exports) (symbol_at (g.H.Host.program c.args.host.now) c.args.«module» c.args.symbol) in
     let d = c.in-Some-export.export in
     let cut = drop_nth ds c.loop-place.place d (sym c.in-Some-export.ensures) in
-    let other = ne_eqb d.name.0 n.0 (λ e. true≢false (sym (c.eq.ensures.1 e) ∙ c.if-eq.false)) in
+    let other = sym c.eq.ensures ∙ c.if-eq.false in
     let rest = spec.has_export (drop (c.loop-place.place + 1) ds) n in
     sym (ap (λ b. b || rest) other) ∙ sym (ap (λ l. spec.has_export l n) cut) ∙ c.loop-place.invariant
 

@@ -1,4 +1,4 @@
-use Rattle.std.proofs.Common.{◌≡◌, sym, ap, ◌∙◌, subst}
+use Rattle.std.proofs.Common.{sym, ap, ◌∙◌, subst}
 use Rattle.resolution.proofs.Lawful.{target_lawful}
 use Rattle.resolution.specs.Laws.{TargetOf}
 use Rattle.resolution.specs.Targets as spec

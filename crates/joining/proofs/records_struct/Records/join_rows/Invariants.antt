@@ -1,7 +1,7 @@
-use Rattle.std.proofs.Common.{◌≡◌, ◌+◌, ◌<◌, ◌≤◌, length, take, drop}
+use Rattle.std.proofs.Common.{◌+◌, ◌≤◌, length, take, drop}
 use Rattle.joining.specs.Joining.{joined_paths}
 use Rattle.joining.specs.Rows.{paths_of}
-use Rattle.joining.specs.Tables.{modules, used, record_of, Changes}
+use Rattle.joining.specs.Tables.{used, record_of, Changes}
 use Rattle.joining.proofs.records_struct.Records.join_rows.Given as goal
 
 abbrev pub invariant-loop-row : goal.invariant-loop-row
