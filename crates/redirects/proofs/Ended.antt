@@ -1,13 +1,13 @@
 -- Where the way is followed to is where it ends. Assumes nothing.
-use Rattle.std.proofs.Common.{◌≡◌, ℕ, zero, suc, ◌+◌, ◌-◌, ◌<◌, ◌≤◌, Bool, true, false, cond, eqb, List, [], ◌∷◌, ◌++◌, length, Some, None, Decides, Option, sym, refl, ap, ◌∙◌, subst, arith}
+use Rattle.std.proofs.Common.{◌≡◌, ℕ, zero, suc, ◌+◌, ◌-◌, ◌≤◌, Bool, true, false, cond, eqb, List, [], ◌∷◌, ◌++◌, length, Some, None, Decides, Option, sym, refl, ap, ◌∙◌, subst, arith}
 use Rattle.std.proofs.lemmas.List.{length_push}
-use Rattle.std.proofs.lemmas.Bool.{eqb-true, eqb-false, ne_eqb}
+use Rattle.std.proofs.lemmas.Bool.{ne_eqb}
 use Rattle.std.proofs.lemmas.Bool.Decides.{Decides-by_or, Decides-eqb, not_from_Decides}
 use Rattle.ids.specs.declared.numbers.ModuleId.{ModuleId}
 use Rattle.redirects.specs.Ends.{Goes, NoneStarts, Seen, Way, stay, go, Stops, none_starts, comes_back, ten_seen, Ends}
 use Rattle.redirects.specs.Following.{seen_limit, next, seen_before, walk, followed}
 use Rattle.redirects.specs.declared.redirect.Redirect.{Redirect}
-use Rattle.redirects.specs.Steps.{walk_none, walk_seen, walk_on}
+use Rattle.redirects.proofs.Steps.{walk_none, walk_seen, walk_on}
 
 -- what a search for a redirect tells
 

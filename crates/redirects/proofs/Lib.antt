@@ -1,4 +1,5 @@
 pub mod Ended
 pub mod Refused
+pub mod Steps
 pub mod Told
 pub mod Worked

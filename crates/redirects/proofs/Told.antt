@@ -1,5 +1,5 @@
 -- What a program tells of its records once redirects are followed. Assumes nothing.
-use Rattle.std.proofs.Common.{◌≡◌, ℕ, List, [], ◌∷◌, map, length, Some, None, Option, sym, refl, ap, ◌∙◌}
+use Rattle.std.proofs.Common.{◌≡◌, ℕ, List, map, length, Some, None, Option, refl, ap, ◌∙◌}
 use Rattle.std.proofs.lemmas.List.{length-map}
 use Rattle.std.specs.Option.{option_map}
 use Rattle.std.specs.List.{slice_get}
@@ -7,7 +7,6 @@ use Rattle.ids.specs.declared.numbers.ModuleId.{ModuleId}
 use Rattle.ids.specs.declared.numbers.SymbolId.{SymbolId}
 use Rattle.host.specs.Lookups.{within, deps_of, re_export_all_at, symbol_at, export_at, member_at, decl_at, dep_at}
 use Rattle.host.specs.Program.{Module, Program, told_module}
-use Rattle.host.specs.declared.told.Dependency.{Dependency}
 use Rattle.host.specs.declared.told.ModuleInfo.{ModuleInfo}
 use Rattle.redirects.specs.Layers.{sent_dependency, sent_module, sent}
 use Rattle.redirects.specs.Kept.{nth_map}

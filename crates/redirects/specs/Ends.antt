@@ -1,5 +1,5 @@
 -- What the end of a way is, by the redirects that lead to it. Assumes nothing.
-use Rattle.std.specs.Prelude.{◌≡◌, ℕ, ◌<◌, ◌≤◌, ◌⊎◌, List, [], ◌∷◌, ◌++◌, length, ◌≢◌}
+use Rattle.std.specs.Prelude.{◌≡◌, ℕ, ◌<◌, ◌≤◌, List, [], ◌∷◌, ◌++◌, length, ◌≢◌}
 use Rattle.std.specs.List.{HoldsAt, AllByRecursion as All}
 use Rattle.ids.specs.declared.numbers.ModuleId.{ModuleId}
 use Rattle.redirects.specs.Following.{seen_limit}

@@ -1,5 +1,5 @@
 -- Where redirects lead. Assumes nothing.
-use Rattle.std.specs.Prelude.{ℕ, zero, suc, ◌-◌, Bool, true, false, cond, ◌||◌, List, [], ◌∷◌, ◌++◌, Some, None, filter, Option, ◌==◌, nat_lt}
+use Rattle.std.specs.Prelude.{ℕ, zero, suc, ◌-◌, Bool, false, cond, ◌||◌, List, [], ◌∷◌, ◌++◌, Some, None, filter, Option, ◌==◌, nat_lt}
 use Rattle.ids.specs.declared.numbers.ModuleId.{ModuleId}
 use Rattle.redirects.specs.declared.redirect.Redirect.{Redirect}
 

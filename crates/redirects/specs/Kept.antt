@@ -1,5 +1,5 @@
 -- A program with redirects followed keeps the rules. Assumes nothing.
-use Rattle.std.specs.Prelude.{◌≡◌, ℕ, zero, suc, ◌-◌, ◌<◌, ◌≤◌, Bool, true, cond, List, [], ◌∷◌, ◌++◌, map, length, IfSome, Some, None, Option, ◌==◌, refl}
+use Rattle.std.specs.Prelude.{◌≡◌, ℕ, zero, suc, ◌-◌, ◌<◌, ◌≤◌, true, List, [], ◌∷◌, ◌++◌, map, length, IfSome, Some, None, Option, ◌==◌, refl}
 use Rattle.std.proofs.Common.{sym, ap, subst, ◌∙◌}
 use Rattle.std.proofs.ByRecursion.{All-map, All-weaker, kept_by_passes}
 use Rattle.std.proofs.lemmas.List.{length-map}
@@ -9,7 +9,7 @@ use Rattle.std.specs.List.{AllByRecursion as All, slice_get}
 use Rattle.ids.specs.declared.numbers.ModuleId.{ModuleId}
 use Rattle.host.proofs.Decided.{decides_kept}
 use Rattle.host.specs.Program.{Module, Package, Program}
-use Rattle.host.specs.Rules.{list_limit, AllAt, Distinct, NameKnown, DependencyKept, ListsKept, is_typed, ModuleKept, owner_of, EntryKept, EntriesKept, PackageKept, Kept}
+use Rattle.host.specs.Rules.{list_limit, AllAt, Distinct, DependencyKept, ListsKept, is_typed, ModuleKept, owner_of, EntryKept, EntriesKept, PackageKept, Kept}
 use Rattle.host.specs.Tests.{valid}
 use Rattle.host.specs.declared.told.Dependency.{Dependency}
 use Rattle.redirects.specs.Following.{seen_limit, stays, usable, next, seen_before, walk, followed}

@@ -30,10 +30,10 @@ impl<H: Host> Redirected<H> {
     // The layer of these redirects over a host. Refused, the host is given back.
     pub fn new(host: H, redirects: Vec<Redirect>) -> Result<Redirected<H>, (Refusal, H)>
         ensures parts { MatchResult result (λ t. (t.host ≡ host) × (t.redirects ≡ redirects)) (λ e. e.1 ≡ host) }
-        ensures why { MatchResult result (λ _. refusals.Fit (length (program host).modules) redirects.items) (λ e. refusals.Says (length (program host).modules) redirects.items e.0) }
-        ensures number { MatchResult result (λ _. refusals.refused_with (length (program host).modules) redirects.items ≡ None) (λ e. refusals.refused_with (length (program host).modules) redirects.items ≡ Some (refusals.number e.0)) }
-        ensures alone { refusals.OneAlone (length (program host).modules) redirects.items }
-        ensures none_passed_over { OnOk result (following.usable (length (program host).modules) redirects.items ≡ redirects.items) }
+        ensures why { MatchResult result (λ _. refusals.Fit (length (H.program host).modules) redirects.items) (λ e. refusals.Says (length (H.program host).modules) redirects.items e.0) }
+        ensures number { MatchResult result (λ _. refusals.refused_with (length (H.program host).modules) redirects.items ≡ None) (λ e. refusals.refused_with (length (H.program host).modules) redirects.items ≡ Some (refusals.number e.0)) }
+        ensures alone { refusals.OneAlone (length (H.program host).modules) redirects.items }
+        ensures none_passed_over { OnOk result (following.usable (length (H.program host).modules) redirects.items ≡ redirects.items) }
         ensures examples { Examples }
     {
         match refusal_of(&redirects, host.modules()) {
@@ -45,15 +45,15 @@ impl<H: Host> Redirected<H> {
     // Where a module is sent in the end: redirects are followed until none starts there, the next module was seen
     // before, or ten modules are seen.
     pub fn end(&self, start: ModuleId) -> ModuleId
-        ensures value { result ≡ spec.sends self.now.redirects.items (program self.now.host) start }
-        ensures ends { Ends (following.usable (length (program self.now.host).modules) self.now.redirects.items) start result }
+        ensures value { result ≡ spec.sends self.now.redirects.items (H.program self.now.host) start }
+        ensures ends { Ends (following.usable (length (H.program self.now.host).modules) self.now.redirects.items) start result }
     {
         follow(&self.redirects, self.host.modules(), start)
     }
 
     // The same of a module that may not be there.
     fn end_of(&self, start: Option<ModuleId>) -> Option<ModuleId>
-        ensures { result ≡ option_map (spec.sends self.now.redirects.items (program self.now.host)) start }
+        ensures { result ≡ option_map (spec.sends self.now.redirects.items (H.program self.now.host)) start }
     {
         match start {
             Some(module) => Some(self.end(module)),

@@ -1,16 +1,16 @@
 use Rattle.std.proofs.Common.{◌≡◌, suc, ◌+◌, ◌-◌, true, false, take, sym, refl, ap, ◌∙◌, arith}
 use Rattle.std.proofs.lemmas.List.{length-set, take_more_set}
 use Rattle.redirects.specs.Following.{usable, seen_before, walk, followed}
-use Rattle.redirects.specs.Steps.{contains_seen, walk_none, walk_seen, walk_on}
+use Rattle.redirects.proofs.Steps.{contains_seen, walk_none, walk_seen, walk_on}
 use Rattle.redirects.proofs.following.follow.Goals as goal
 
 pub loop-count-init : goal.loop-count-init
 unfolding followed
 loop-count-init c = (refl, refl)
 
-pub returns-in-default : goal.returns-in-default
-returns-in-default c =
-    sym (walk_none (usable c.args.modules c.args.redirects.now) (take c.loop-count.count c.loop-count.seen) c.loop-count.end (10 - c.loop-count.count) (sym c.in-default.ensures)) ∙ c.loop-count.invariant.0
+pub returns-in_default : goal.returns-in_default
+returns-in_default c =
+    sym (walk_none (usable c.args.modules c.args.redirects.now) (take c.loop-count.count c.loop-count.seen) c.loop-count.end (10 - c.loop-count.count) (sym c.in_default.ensures)) ∙ c.loop-count.invariant.0
 
 pub returns-then-contains : goal.returns-then-contains
 returns-then-contains c =

@@ -1,4 +1,4 @@
-use Rattle.std.proofs.Common.{vec_items, sym, ap, ◌∙◌}
+use Rattle.std.proofs.Common.{vec_items, sym, ◌∙◌}
 use Rattle.redirects.specs.Layers.{sends}
 use Rattle.redirects.proofs.Told.{export_same}
 use Rattle.redirects.proofs.layer.RedirectedHost.export.Goals as goal
