@@ -3,7 +3,7 @@ use Rattle.std.proofs.Common.{◌≡◌, ℕ, ◌≤◌, Bool, true, false, cond
 use Rattle.std.proofs.lemmas.Bool.{lt-ltb}
 use Rattle.std.proofs.lemmas.Bool.Decides.{Decides-ltb, Decides-and, not_from_Decides}
 use Rattle.std.specs.Option.{option_map}
-use Rattle.std.specs.List.{AllByRecursion as All}
+use Rattle.std.specs.List.{AllByRecursion}
 use Rattle.host.proofs.Decided.{decides_leb, decides_all, decides_distinct}
 use Rattle.host.specs.Rules.{Distinct}
 use Rattle.host.specs.Tests.{all, distinct}
@@ -20,10 +20,10 @@ Right n rs None = Fit n rs
 Right n rs (Some e) = Says n rs e
 
 module _ (n : ℕ) (rs : List Redirect) where
-  decides_inside : Decides (all (inside n) rs) (All (Inside n) rs)
+  decides_inside : Decides (all (inside n) rs) (AllByRecursion (Inside n) rs)
   decides_inside = decides_all (inside n) (Inside n) (λ r. Decides-and (ltb r.from.0 n) (ltb r.to.0 n) (Decides-ltb r.from.0 n) (Decides-ltb r.to.0 n)) rs
 
-  by_tests : (a b f : Bool) → Decides a (All (Inside n) rs) → Decides b (Distinct (starts rs)) → Decides f (length rs ≤ redirect_limit) → Right n rs (cond a (cond b (cond f None (Some TooMany)) (Some TwoStartAlike)) (Some PastTheLast))
+  by_tests : (a b f : Bool) → Decides a (AllByRecursion (Inside n) rs) → Decides b (Distinct (starts rs)) → Decides f (length rs ≤ redirect_limit) → Right n rs (cond a (cond b (cond f None (Some TooMany)) (Some TwoStartAlike)) (Some PastTheLast))
   by_tests true true true in_all apart few = record { inside = in_all.0 refl; apart = apart.0 refl; few = few.0 refl }
   by_tests true true false in_all apart few = let many = not_from_Decides false few refl in (in_all.0 refl, (apart.0 refl, omega (arith, many)))
   by_tests true false f in_all apart few = (in_all.0 refl, not_from_Decides false apart refl)
@@ -54,7 +54,7 @@ module _ (n : ℕ) (rs : List Redirect) where
   its_number r e = numbers ∙ ap (option_map number) e
 
 -- of redirects that fit, none is passed over
-pub all_usable : (n : ℕ) (rs : List Redirect) → All (Inside n) rs → usable n rs ≡ rs
+pub all_usable : (n : ℕ) (rs : List Redirect) → AllByRecursion (Inside n) rs → usable n rs ≡ rs
 all_usable n [] h = refl
 all_usable n (r ∷ rs) h = ap (λ b. cond b (r ∷ usable n rs) (usable n rs)) (lt-ltb r.to.0 n h.0.1) ∙ ap (λ l. r ∷ l) (all_usable n rs h.1)
 

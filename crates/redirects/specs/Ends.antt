@@ -1,6 +1,6 @@
 -- What the end of a way is, by the redirects that lead to it. Assumes nothing.
 use Rattle.std.specs.Prelude.{◌≡◌, ℕ, ◌<◌, ◌≤◌, List, [], ◌∷◌, ◌++◌, length, ◌≢◌}
-use Rattle.std.specs.List.{HoldsAt, AllByRecursion as All}
+use Rattle.std.specs.List.{HoldsAt, AllByRecursion}
 use Rattle.ids.specs.declared.numbers.ModuleId.{ModuleId}
 use Rattle.redirects.specs.Following.{seen_limit}
 use Rattle.redirects.specs.declared.redirect.Redirect.{Redirect}
@@ -11,7 +11,7 @@ Goes rs a b = (k : ℕ) × (k < length rs) × HoldsAt (λ r. (r.from.0 ≡ a.0) 
 
 -- no redirect starts at a module
 abbrev pub NoneStarts : List Redirect → ModuleId → Type 0
-NoneStarts rs m = All (λ r. r.from.0 ≢ m.0) rs
+NoneStarts rs m = AllByRecursion (λ r. r.from.0 ≢ m.0) rs
 
 abbrev pub Seen : ModuleId → List ModuleId → Type 0
 Seen m seen = (k : ℕ) × (k < length seen) × HoldsAt (λ s. s.0 ≡ m.0) seen k

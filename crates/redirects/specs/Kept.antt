@@ -5,7 +5,7 @@ use Rattle.std.proofs.ByRecursion.{All-map, All-weaker, kept_by_passes}
 use Rattle.std.proofs.lemmas.List.{length-map}
 use Rattle.std.proofs.lemmas.Bool.{cond_both, ltb-true}
 use Rattle.std.specs.Option.{option_map}
-use Rattle.std.specs.List.{AllByRecursion as All, slice_get}
+use Rattle.std.specs.List.{AllByRecursion, slice_get}
 use Rattle.ids.specs.declared.numbers.ModuleId.{ModuleId}
 use Rattle.host.proofs.Decided.{decides_kept}
 use Rattle.host.specs.Program.{Module, Package, Program}
@@ -23,11 +23,11 @@ module _ (n : ℕ) where
   abbrev Below : ModuleId → Type 0
   Below m = m.0 < n
 
-  next_below : (rs : List Redirect) (m : ModuleId) → All (λ r. Below r.to) rs → IfSome (next rs m) Below
+  next_below : (rs : List Redirect) (m : ModuleId) → AllByRecursion (λ r. Below r.to) rs → IfSome (next rs m) Below
   next_below [] m h = tt
   next_below (r ∷ rs) m h = cond_both (r.from.0 == m.0) (Some r.to) (next rs m) (λ o. IfSome o Below) (λ _. h.0) (λ _. next_below rs m h.1)
 
-  walk_below : (rs : List Redirect) → All (λ r. Below r.to) rs → (k : ℕ) (seen : List ModuleId) (m : ModuleId) → Below m → Below (walk rs k seen m)
+  walk_below : (rs : List Redirect) → AllByRecursion (λ r. Below r.to) rs → (k : ℕ) (seen : List ModuleId) (m : ModuleId) → Below m → Below (walk rs k seen m)
   walk_below rs all-below zero seen m h = h
   walk_below rs all-below (suc k) seen m h = subst Below (sym (walk_more rs seen m k)) (onward_below (next rs m) (next_below rs m all-below) (λ t. walk_below rs all-below k (seen ++ t ∷ []) t))
     where
@@ -110,7 +110,7 @@ sent_kept f p stay k =
       packages_few = k.packages_few;
       modules_few = subst (λ l. l ≤ 1024) count k.modules_few;
       packages_kept = all_at_weaker (PackageKept ms) (PackageKept (map (sent_module f) ms)) (package_sent f ms) 0 p.packages k.packages_kept;
-      modules_kept = subst (λ l. All (ModuleKept n pk l) (map (sent_module f) ms)) count (All-map (ModuleKept n pk (length ms)) (sent_module f) ms (All-weaker (ModuleKept n pk (length ms)) (λ m. ModuleKept n pk (length ms) (sent_module f m)) (module_sent f n pk (length ms) stay) ms k.modules_kept));
+      modules_kept = subst (λ l. AllByRecursion (ModuleKept n pk l) (map (sent_module f) ms)) count (All-map (ModuleKept n pk (length ms)) (sent_module f) ms (All-weaker (ModuleKept n pk (length ms)) (λ m. ModuleKept n pk (length ms) (sent_module f m)) (module_sent f n pk (length ms) stay) ms k.modules_kept));
     }
 
 pub redirected_valid : (rs : List Redirect) (p : Program) → valid p ≡ true → valid (redirected rs p) ≡ true

@@ -1,6 +1,6 @@
 -- Which redirects a layer may have, and why others are refused. Assumes nothing.
 use Rattle.std.specs.Prelude.{◌≡◌, ℕ, ◌<◌, ◌≤◌, Bool, cond, ◌&&◌, List, map, length, Some, None, Option, nat_le, nat_lt}
-use Rattle.std.specs.List.{AllByRecursion as All}
+use Rattle.std.specs.List.{AllByRecursion}
 use Rattle.host.specs.Rules.{Distinct}
 use Rattle.host.specs.Tests.{all, distinct}
 use Rattle.redirects.specs.declared.redirect.Redirect.{Redirect}
@@ -27,15 +27,15 @@ starts rs = map (λ r. r.from.0) rs
 
 -- the redirects that a layer over so many modules may have
 pub record Fit (modules : ℕ) (rs : List Redirect) : Type 0 where
-  pub inside : All (Inside modules) rs
+  pub inside : AllByRecursion (Inside modules) rs
   pub apart : Distinct (starts rs)
   pub few : length rs ≤ redirect_limit
 
 -- what a refusal says of the redirects
 abbrev pub Says : ℕ → List Redirect → Refusal → Type 0
-Says modules rs PastTheLast = All (Inside modules) rs → ⊥
-Says modules rs TwoStartAlike = All (Inside modules) rs × (Distinct (starts rs) → ⊥)
-Says modules rs TooMany = All (Inside modules) rs × (Distinct (starts rs) × (redirect_limit < length rs))
+Says modules rs PastTheLast = AllByRecursion (Inside modules) rs → ⊥
+Says modules rs TwoStartAlike = AllByRecursion (Inside modules) rs × (Distinct (starts rs) → ⊥)
+Says modules rs TooMany = AllByRecursion (Inside modules) rs × (Distinct (starts rs) × (redirect_limit < length rs))
 
 -- for any redirects, that they fit or one of the refusals is right, and not two of these
 pub record OneAlone (modules : ℕ) (rs : List Redirect) : Type 0 where
