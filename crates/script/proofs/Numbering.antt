@@ -1,5 +1,5 @@
 -- Lemmas on names that get numbers in a table that grows.
-use Rattle.std.proofs.Common.{◌≡◌, ℕ, ◌+◌, ◌<◌, ◌≤◌, eqb, List, [], ◌∷◌, ◌++◌, map, length, get_or, take, Some, None, Ok, Err, Option, unwrap_or, sym, refl, ap, ◌∙◌, subst, arith, Bor, MatchOption}
+use Rattle.std.proofs.Common.{◌≡◌, ℕ, ◌+◌, ◌<◌, ◌≤◌, eqb, List, [], ◌∷◌, ◌++◌, map, length, get_or, take, Some, None, Err, Option, unwrap_or, sym, refl, ap, ◌∙◌, subst, arith, Bor, MatchOption}
 use Rattle.std.specs.List.{ContainsAt as Has, AllByRecursion as All}
 use Rattle.std.proofs.ByRecursion.{All-push, All-weaker, has_get_or}
 use Rattle.std.proofs.lemmas.List.{append_assoc, length-append, length-map, get_or_append_left, get_or-map, map_push, map_more}

@@ -1,5 +1,5 @@
 -- Lemmas on what the lines of a text add.
-use Rattle.std.proofs.Common.{◌≡◌, ℕ, ◌+◌, ◌<◌, ◌≤◌, List, [], ◌∷◌, ◌++◌, length, Ok, Err, vec_items, string_bytes, Result, sym, refl, ap, ◌∙◌, subst, add_assoc, arith, Bor}
+use Rattle.std.proofs.Common.{◌≡◌, ℕ, ◌+◌, ◌<◌, ◌≤◌, List, [], ◌∷◌, ◌++◌, length, Ok, Err, string_bytes, Result, sym, refl, ap, ◌∙◌, subst, arith, Bor}
 use Rattle.std.specs.Str.Lines.{IsFirstLine as FirstLine}
 use Rattle.std.specs.List.{AllByRecursion as All}
 use Rattle.std.proofs.lemmas.List.{append_assoc, append-nil, length_push, nil_from_length}
@@ -15,11 +15,11 @@ use Rattle.script.specs.declared.requests.Line.{Line}
 use Rattle.script.specs.declared.requests.Requests.{Requests}
 use Rattle.script.specs.declared.words.Row.TheVariants.{Wrong}
 use Rattle.script.specs.Faults.{Placed}
-use Rattle.script.specs.Interned.{texts, firsts, Numbered}
+use Rattle.script.specs.Interned.{firsts, Numbered}
 use Rattle.script.specs.Rows.{Rowed}
-use Rattle.script.specs.Scripts.{Asked, LineAdded, Misasked, Faulty, RowLines, Rows, Lines, Tells, Knows, Climbs, Script, Stopped, Read}
-use Rattle.script.specs.Spelled.{Asks, Extends, Spells}
-use Rattle.script.specs.Texts.{Text, text_at}
+use Rattle.script.specs.Scripts.{Asked, LineAdded, Misasked, Faulty, RowLines, Rows, Lines, Tells, Knows, Climbs, Script, Read}
+use Rattle.script.specs.Spelled.{Asks, Extends}
+use Rattle.script.specs.Texts.{Text}
 use Rattle.script.specs.Words.{Says}
 use Rattle.script.proofs.Numbering.{extends_on, text_kept, texts_kept, known_kept, longer}
 

@@ -1,14 +1,14 @@
 -- Lemmas on a path that is written out, and read back.
-use Rattle.std.proofs.Common.{◌≡◌, ℕ, ◌+◌, ◌<◌, ◌≤◌, Bool, true, false, cond, ◌||◌, List, [], ◌∷◌, ◌++◌, map, length, get_or, take, drop, codes, sym, refl, ap, ◌∙◌, subst, ⊎_elim, arith}
+use Rattle.std.proofs.Common.{◌≡◌, ℕ, ◌+◌, ◌<◌, false, List, [], ◌∷◌, ◌++◌, length, get_or, take, drop, codes, sym, ap, ◌∙◌, ⊎_elim, arith}
 use Rattle.std.specs.List.{join_with_byte, flat_map}
 use Rattle.std.specs.Str.{bytes_eq}
 use Rattle.std.proofs.lemmas.Slice.Eq.{bytes_eq-Decides}
 use Rattle.std.proofs.lemmas.List.{append_assoc, append-nil, take_more, flat_map_more}
-use Rattle.std.proofs.lemmas.Bool.{cases_Bool, both_ways, or_from, cond-false}
+use Rattle.std.proofs.lemmas.Bool.{cases_Bool, or_from, cond-false}
 use Rattle.ids.specs.declared.numbers.NameId.{NameId}
 use Rattle.script.specs.Texts.{Text, text_at}
 use Rattle.script.specs.Spelled.{dot, texts_of}
-use Rattle.script.specs.Written.{special, guarded}
+use Rattle.script.specs.Written.{guarded}
 
 -- each name with a dot before it
 abbrev pub after_dots : List Text → List NameId → Text

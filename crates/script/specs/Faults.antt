@@ -12,7 +12,6 @@ use Rattle.script.specs.Spelled.{Pieces, Spells, Numbers, Extends, Asks, bare}
 use Rattle.ids.specs.declared.numbers.ModuleId.{ModuleId}
 use Rattle.script.specs.declared.faults.Fault.{Fault}
 use Rattle.script.specs.declared.faults.Fault.TheVariants.{Line, NoMemory as NoMemoryLeft}
-use Rattle.script.specs.declared.faults.Problem.{Problem}
 use Rattle.script.specs.declared.faults.Problem.TheVariants.{NoRequest, TooManyWords, EmptyName, TooManyNames, TooManyModules, TooManyDistinctNames}
 use Rattle.script.specs.declared.faults.Unread.{Unread}
 use Rattle.script.specs.declared.faults.Unread.TheVariants.{Of, NoMemory}
