@@ -31,7 +31,7 @@ pub(crate) trait TestAt<X> {
 
 // Whether each of `xs` passes.
 pub(crate) fn all<X, T: Test<X>>(test: &T, xs: &[X]) -> bool
-    ensures { result ≡ tests.all (passes test.now) xs.now }
+    ensures { result ≡ tests.all (T.passes test.now) xs.now }
 {
     for x in xs {
         if !test.test(x) {
@@ -43,7 +43,7 @@ pub(crate) fn all<X, T: Test<X>>(test: &T, xs: &[X]) -> bool
 
 // Whether each of `xs` passes at its place.
 pub(crate) fn all_at<X, T: TestAt<X>>(test: &T, xs: &[X]) -> bool
-    ensures { result ≡ tests.all_at (stands test.now) 0 xs.now }
+    ensures { result ≡ tests.all_at (T.stands test.now) 0 xs.now }
 {
     for (i, x) in xs.iter().enumerate() {
         if !test.test_at(i, x) {
@@ -55,7 +55,7 @@ pub(crate) fn all_at<X, T: TestAt<X>>(test: &T, xs: &[X]) -> bool
 
 // Whether what is there passes.
 pub(crate) fn held<X, T: Test<X>>(test: &T, x: &Option<X>) -> bool
-    ensures { result ≡ tests.held x.now (passes test.now) }
+    ensures { result ≡ tests.held x.now (T.passes test.now) }
 {
     match x {
         None => true,
@@ -73,7 +73,7 @@ pub(crate) trait Keyed {
 
 // Whether one of `xs` goes by this number.
 fn among<X: Keyed>(key: u32, xs: &[X]) -> bool
-    ensures { result ≡ tests.among key (map number xs.now) }
+    ensures { result ≡ tests.among key (map X.number xs.now) }
 {
     for x in xs {
         if key == x.key() {
@@ -85,7 +85,7 @@ fn among<X: Keyed>(key: u32, xs: &[X]) -> bool
 
 // Whether no two of `xs` go by the same number.
 pub(crate) fn distinct<X: Keyed>(xs: &[X]) -> bool
-    ensures { result ≡ tests.distinct (map number xs.now) }
+    ensures { result ≡ tests.distinct (map X.number xs.now) }
 {
     for (i, x) in xs.iter().enumerate() {
         if among(x.key(), &xs[i + 1..]) {

@@ -5,7 +5,6 @@ ghost use Rattle.std.specs.Option.{option_map};
 ghost use Rattle.host.specs.Lookups as at;
 ghost use Rattle.tables.specs.Loading as spec;
 ghost use Rattle.table_rules.specs.Meaning.{package_of, module_of, symbol_of, decl_of};
-ghost use Rattle.std.proofs.Common.{rules, arith};
 
 use crate::infos::{decl_info, module_info, package_info, symbol_info};
 use crate::lookups::{at, copied_at};
@@ -64,7 +63,7 @@ impl Tables {
 impl Host for Tables {
     ghost program = { spec.program };
 
-    ghost kept = { first_of (Prim.search rules, Prim.grind (arith, Self.row.coded.inj)) };
+    ghost kept = { λ h. h.kept };
 
     fn names(&self) -> usize {
         self.table.names as usize

@@ -1,5 +1,5 @@
 -- Lemmas on a word that is cut at each mark.
-use Rattle.std.proofs.Common.{◌≡◌, ℕ, ◌<◌, true, List, map, length, get_or, IfSome, IfOk, Some, None, Ok, Err, vec_items, vec_len, Option, Result, Vec, sym, refl, ap, ◌∙◌, subst, arith, Bor}
+use Rattle.std.proofs.Common.{◌≡◌, ℕ, ◌<◌, true, List, map, length, get_or, IfSome, IfOk, Some, None, Ok, Err, vec_items, vec_len, Option, Result, Vec, sym, subst, arith, Bor}
 use Rattle.std.specs.Option.{option_map}
 use Rattle.std.specs.Str.Iter.{LacksByte, IsSplitnRun, CutsAtEveryByte}
 use Rattle.std.specs.Iterator.Runs.{Run, AllItems, EachRunFrom, WholeRun}

@@ -1,5 +1,5 @@
 -- Lemmas on the lines of a text.
-use Rattle.std.proofs.Common.{◌≡◌, ◌<◌, List, [], ◌∷◌, ◌++◌, length, sym, refl, subst}
+use Rattle.std.proofs.Common.{◌<◌, List, [], ◌∷◌, ◌++◌, length, sym, refl, subst}
 use Rattle.std.specs.Str.Lines.{IsFirstLine as FirstLine}
 use Rattle.words.specs.Lines.{Lines}
 use Rattle.words.specs.Texts.{Text}

@@ -1,8 +1,8 @@
 -- Lemmas on rows of texts.
-use Rattle.std.proofs.Common.{◌≡◌, ℕ, ◌+◌, ◌<◌, ◌≤◌, Bool, true, false, cond, List, [], ◌∷◌, ◌++◌, map, length, get_or, vec_len, string_bytes, Vec, String, sym, refl, ap, ◌∙◌, subst, ⊎_elim, arith}
+use Rattle.std.proofs.Common.{◌≡◌, ℕ, ◌+◌, ◌<◌, ◌≤◌, Bool, true, false, cond, List, [], ◌∷◌, ◌++◌, map, length, get_or, vec_len, string_bytes, Vec, String, sym, ap, ◌∙◌, subst, ⊎_elim, arith}
 use Rattle.std.proofs.lemmas.List.{get_or-map, map_push, length-map, length_push, get_or_push, get_or_append_left}
 use Rattle.std.proofs.lemmas.Bool.{cases_lt}
-use Rattle.words.specs.Texts.{Text, texts_in, text_at, Alike, Distinct, Lacking}
+use Rattle.words.specs.Texts.{Text, texts_in, text_at, Distinct, Lacking}
 use Rattle.words.specs.Interned.{Numbered}
 
 -- there are as many texts as strings

@@ -1,11 +1,10 @@
 -- Lemmas on the first word of a text.
-use Rattle.std.proofs.Common.{◌≡◌, ℕ, ◌+◌, ◌-◌, ◌<◌, ◌≤◌, true, false, ◌||◌, leb, List, [], ◌∷◌, ◌++◌, map, length, get_or, take, drop, Option, sym, refl, ap, ◌∙◌, subst, inl, inr, ⊎_elim, arith, Bor, MatchOption}
-use Rattle.std.specs.Str.Iter.{LacksByte}
+use Rattle.std.proofs.Common.{◌≡◌, ℕ, ◌+◌, ◌<◌, ◌≤◌, true, false, ◌||◌, leb, List, [], ◌∷◌, ◌++◌, map, length, get_or, take, drop, sym, refl, ap, ◌∙◌, subst, ⊎_elim, arith, Bor}
 use Rattle.std.specs.Char.{is_ascii_whitespace}
 use Rattle.std.specs.Int.{is_in_range}
 use Rattle.std.specs.Str.{IsCharBoundary}
 use Rattle.std.proofs.ByRecursion.{All-from_get_or}
-use Rattle.std.proofs.lemmas.List.{take-append-drop, take_all, length-take, length-take-le, length-drop, length-append, get_or-take, get_or-drop, map_push}
+use Rattle.std.proofs.lemmas.List.{take-append-drop, take_all, length-take-le, length-drop, length-append, get_or-take, get_or-drop, map_push}
 use Rattle.std.proofs.lemmas.Bool.{or_cases, and_parts, leb-true, both_ways, cases_lt}
 use Rattle.std.proofs.lemmas.Str.{IsCharBoundary-before_ascii, IsCharBoundary-end}
 use Rattle.words.specs.Texts.{Text}

@@ -1,5 +1,5 @@
 -- What comes of a word that should spell a path. Assumes nothing.
-use Rattle.std.specs.Prelude.{◌≡◌, ℕ, ◌<◌, List, [], length, Ok, Err, vec_items, Result, Vec}
+use Rattle.std.specs.Prelude.{◌≡◌, ◌<◌, List, [], length, Ok, Err, vec_items, Result, Vec}
 use Rattle.std.specs.List.{ContainsAt as Has}
 use Rattle.ids.specs.declared.numbers.NameId.{NameId}
 use Rattle.ids.specs.declared.path_struct.Path.{Path}

@@ -1,5 +1,5 @@
 -- How a path is spelled: its names, with a dot between each two. Assumes nothing.
-use Rattle.std.specs.Prelude.{◌≡◌, ℕ, ◌<◌, List, [], ◌∷◌, ◌++◌, map, length}
+use Rattle.std.specs.Prelude.{◌≡◌, ℕ, ◌<◌, List, ◌++◌, map, length}
 use Rattle.std.specs.List.{join_with_byte, AllByRecursion as All}
 use Rattle.std.specs.Str.Iter.{LacksByte}
 use Rattle.ids.specs.declared.numbers.NameId.{NameId}

@@ -93,7 +93,7 @@ impl Names {
         if number == self.limit {
             return Err(InternError::Full);
         }
-        let item = String::from_str(self.items.allocator(), text)?;
+        let item = String::from_str(*self.items.allocator(), text)?;
         self.items.push(item)?;
         Ok(number)
     }

@@ -20,4 +20,4 @@ returns-in-Some c =
     let xs = c.args.modules.now in
     let i = c.args.entry.0 in
     let looked : slice_get xs i ≡ Some c.in-Some.«module».now = search (rules, slice_get-get_or, slice_get_past) in
-    c.is-number.ensures ∙ sym (ap (λ o. is_number c.args.«package» (owner_of o)) (nth_map module_of xs i ∙ ap (option_map module_of) looked))
+    c.is_number.ensures ∙ sym (ap (λ o. is_number c.args.«package» (owner_of o)) (nth_map module_of xs i ∙ ap (option_map module_of) looked))

@@ -7,4 +7,4 @@ use Rattle.tables.proofs.tables_struct.Tables.package_table.Goals as goal
 pub returns : goal.returns
 returns c =
     let i = c.args.«package».0 in
-    told_at package_of c.at.result (vec_items c.args.self.now.table.packages) i (c.at.ensures ∙ ap (λ l. slice_get l i) c.as-slice.ensures.value)
+    told_at package_of c.at.result (vec_items c.args.self.now.table.packages) i (c.at.ensures ∙ ap (λ l. slice_get l i) c.as_slice.ensures.value)

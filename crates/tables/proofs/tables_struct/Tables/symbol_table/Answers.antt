@@ -8,5 +8,5 @@ use Rattle.tables.proofs.tables_struct.Tables.symbol_table.Goals as goal
 pub returns-in-Some : goal.returns-in-Some
 returns-in-Some c =
     let i = c.args.symbol.0 in
-    let told = told_at symbol_of c.at.result _ i (c.at.ensures ∙ ap (λ l. slice_get l i) c.as-slice.ensures.value) in
+    let told = told_at symbol_of c.at.result _ i (c.at.ensures ∙ ap (λ l. slice_get l i) c.as_slice.ensures.value) in
     told ∙ ap (λ o. slice_get (within (λ x. x.symbols) o) i) c.in-Some.ensures
