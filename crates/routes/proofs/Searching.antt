@@ -1,6 +1,6 @@
 -- A search goes on, and what it means that it ends. Assumes nothing.
-use Rattle.std.proofs.Common.{◌≡◌, ℕ, zero, suc, ◌+◌, ◌-◌, ◌<◌, ◌≤◌, Bool, true, false, eqb, leb, ◌⊎◌, List, [], ◌∷◌, ◌++◌, length, is_some, Some, None, Option, sym, refl, ap, ◌∙◌, subst, inl, inr, append_assoc, append-nil, arith, length-append}
-use Rattle.std.proofs.lemmas.Bool.{eqb-true, eq-eqb, leb-true, le-leb, or_cases, or_left, or_right, cases_eq, cases_lt, true≢false, false≢true}
+use Rattle.std.proofs.Common.{◌≡◌, ℕ, zero, suc, ◌+◌, ◌<◌, ◌≤◌, true, false, eqb, leb, ◌⊎◌, List, [], ◌∷◌, ◌++◌, length, is_some, Some, sym, refl, ap, ◌∙◌, subst, inl, inr, append_assoc, append-nil, arith}
+use Rattle.std.proofs.lemmas.Bool.{eqb-true, eq-eqb, leb-true, le-leb, or_cases, or_left, or_right, cases_lt, true≢false, false≢true}
 use Rattle.std.specs.List.{AllByRecursion as All, slice_get}
 use Rattle.ids.specs.declared.numbers.ModuleId.{ModuleId}
 use Rattle.ids.specs.declared.numbers.NameId.{NameId}
@@ -13,7 +13,7 @@ use Rattle.offering.specs.ExportedNames.{contains}
 use Rattle.offering.specs.Offers.{Leads, Offers, own, passed}
 use Rattle.routes.proofs.Spreads.{modules_append, known_more}
 use Rattle.routes.specs.Reach.{modules_in, known, Led, Fresh, Spread}
-use Rattle.routes.specs.Routes.{Route, start_of, step_of, Trail, here, on, Searching}
+use Rattle.routes.specs.Routes.{Route, start_of, Trail, here, on, Searching}
 use Rattle.routes.specs.declared.reached.Reached.{Reached}
 use Rattle.routes.specs.declared.steps.Step.{Step}
 

@@ -1,15 +1,14 @@
 -- Export-alls followed one after another. Assumes nothing.
-use Rattle.std.proofs.Common.{◌≡◌, ℕ, Bool, true, false, cond, ◌||◌, leb, ◌⊎◌, List, [], ◌∷◌, ◌++◌, map, length, Some, None, Option, sym, refl, ap, ◌∙◌, subst, inl, inr, append_assoc, append-nil}
+use Rattle.std.proofs.Common.{◌≡◌, ℕ, Bool, true, false, cond, leb, ◌⊎◌, List, [], ◌∷◌, ◌++◌, length, Some, sym, refl, ap, ◌∙◌, subst, inl, inr, append_assoc, append-nil}
 use Rattle.std.proofs.ByRecursion.{All-append}
-use Rattle.std.proofs.lemmas.Bool.{or_cases, or_left, or_right, true≢false}
-use Rattle.std.specs.List.{AllByRecursion as All}
+use Rattle.std.proofs.lemmas.Bool.{or_cases, or_left, or_right}
 use Rattle.ids.specs.declared.numbers.ModuleId.{ModuleId}
 use Rattle.host.specs.Program.{Program}
 use Rattle.host.specs.declared.told.ReExportAll.{ReExportAll}
 use Rattle.host.specs.Lookups.{re_export_all_at}
 use Rattle.resolution.specs.Targets.{target, stands}
 use Rattle.offering.proofs.Following.{leads_same}
-use Rattle.offering.proofs.Names.{either, contains_kept, contains_last}
+use Rattle.offering.proofs.Names.{contains_kept, contains_last}
 use Rattle.offering.specs.ExportedNames.{contains}
 use Rattle.offering.specs.Offers.{Leads}
 use Rattle.routes.specs.Reach.{modules_in, known, Added, Led, Fresh, Spread}

@@ -1,10 +1,9 @@
 -- What a search through export-alls has reached, step by step. Assumes nothing.
-use Rattle.std.specs.Prelude.{◌≡◌, ℕ, suc, ◌+◌, ◌<◌, ◌≤◌, Bool, true, false, cond, ◌||◌, ◌⊎◌, List, [], ◌∷◌, ◌++◌, map, length, Some, None, Option, nat_le}
-use Rattle.std.specs.List.{AllByRecursion as All, slice_get}
+use Rattle.std.specs.Prelude.{◌≡◌, ℕ, Bool, true, false, cond, ◌||◌, List, [], ◌∷◌, ◌++◌, map, length, nat_le}
+use Rattle.std.specs.List.{AllByRecursion as All}
 use Rattle.ids.specs.declared.numbers.ModuleId.{ModuleId}
-use Rattle.ids.specs.declared.numbers.NameId.{NameId}
 use Rattle.host.specs.Program.{Program}
-use Rattle.resolution.specs.Targets.{stands, exports}
+use Rattle.resolution.specs.Targets.{stands}
 use Rattle.offering.specs.ExportedNames.{contains}
 use Rattle.offering.specs.Offers.{Leads}
 use Rattle.routes.specs.declared.reached.Reached.{Reached}

@@ -28,7 +28,7 @@ fn look_for<H: Host>(
     start: ModuleId,
     name: NameId,
 ) -> Result<Search, AllocError>
-    ensures { IfOk result (Searched (program host.now) name start) }
+    ensures { IfOk result (Searched (H.program host.now) name start) }
 {
     let mut reached = Vec::new(heap);
     let first = Reached {
@@ -58,7 +58,7 @@ fn nearest<H: Host>(
     start: ModuleId,
     name: NameId,
 ) -> Result<Option<Vec<Step>>, AllocError>
-    ensures { IfOk result (λ o. MatchOption o (Offers (program host.now) name start → ⊥) (λ v. spec.Route (program host.now) name start v.items)) }
+    ensures { IfOk result (λ o. MatchOption o (Offers (H.program host.now) name start → ⊥) (λ v. spec.Route (H.program host.now) name start v.items)) }
 {
     if exports(host, start, name) {
         return Ok(Some(Vec::new(heap)));
@@ -81,7 +81,7 @@ pub fn route<H: Host>(
     start: ModuleId,
     name: NameId,
 ) -> Result<Option<Vec<Step>>, AllocError>
-    ensures { IfOk result (λ o. MatchOption o (Offers (program host.now) name start → ⊥) (λ v. spec.Route (program host.now) name start v.items)) }
+    ensures { IfOk result (λ o. MatchOption o (Offers (H.program host.now) name start → ⊥) (λ v. spec.Route (H.program host.now) name start v.items)) }
 {
     nearest(heap, host, start, name)
 }

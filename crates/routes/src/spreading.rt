@@ -10,7 +10,7 @@ use std::alloc::AllocError;
 
 // Adds a module that was reached from another, unless it is there or past the last.
 fn add<H: Host>(host: &H, reached: &mut Vec<Reached>, new: Reached) -> Result<(), AllocError>
-    ensures { OnOk result (spec.Added (program host.now) new reached.old.items reached.new.items) }
+    ensures { OnOk result (spec.Added (H.program host.now) new reached.old.items reached.new.items) }
 {
     if new.module.0 as usize >= host.modules() || holds(reached.as_slice(), new.module) {
         return Ok(());
@@ -27,7 +27,7 @@ fn follow<H: Host>(
     from: usize,
     place: usize,
 ) -> Result<(), AllocError>
-    ensures { OnOk result (spec.Spread (program host.now) «module» from (λ i. i ≡ place) reached.old.items reached.new.items) }
+    ensures { OnOk result (spec.Spread (H.program host.now) «module» from (λ i. i ≡ place) reached.old.items reached.new.items) }
 {
     let Some(re_export_all) = host.re_export_all(module, place) else {
         return Ok(());
@@ -50,7 +50,7 @@ pub(crate) fn spread<H: Host>(
     module: ModuleId,
     from: usize,
 ) -> Result<(), AllocError>
-    ensures { OnOk result (spec.Spread (program host.now) «module» from (λ i. Unit {0}) reached.old.items reached.new.items) }
+    ensures { OnOk result (spec.Spread (H.program host.now) «module» from (λ i. Unit {0}) reached.old.items reached.new.items) }
 {
     let Some(info) = host.module(module) else {
         return Ok(());

@@ -4,7 +4,7 @@ use Rattle.std.proofs.lemmas.Result.{err_from_is_err_and}
 use Rattle.record_text.proofs.Refusing.{pass, not_or_none}
 use Rattle.record_text.proofs.fields.package_or_none.Goals as goal
 
-pub returns-in-err-package : goal.returns-in-err-package
-returns-in-err-package c =
-    let p = err_from_is_err_and c.from-residual.result c.from-residual.ensures.1 in
-    rw (p.1, p.2) (pass _ _ _ c.in-err-package.field-0.0 (λ nay. not_or_none (PackageSaid (texts c.args.packages.now)) _ c.in-default.not-text nay) c.in-err-package.ensures)
+pub returns-in_err-package : goal.returns-in_err-package
+returns-in_err-package c =
+    let p = err_from_is_err_and c.from_residual.result c.from_residual.ensures.1 in
+    rw (p.1, p.2) (pass _ _ _ c.in_err-package.field-0.0 (λ nay. not_or_none (PackageSaid (texts c.args.packages.now)) _ c.in_default.not-text nay) c.in_err-package.ensures)

@@ -12,8 +12,8 @@ blank = record { ref_ptr = (0, 0); now = [] }
 pub loop-word-preserved : goal.loop-word-preserved
 loop-word-preserved c = raises_turn c.args.words.now c.loop-word.word-index blank _ _ _ c.loop-word-test.true c.loop-word.invariant c.in-Some.ensures c.raise.ensures
 
-pub returns-in-default : goal.returns-in-default
-returns-in-default c = (refl, not_raised c.args.words.now c.loop-word.word-index blank c.loop-word-test.true c.in-default.ensures)
+pub returns-in_default : goal.returns-in_default
+returns-in_default c = (refl, not_raised c.args.words.now c.loop-word.word-index blank c.loop-word-test.true c.in_default.ensures)
 
 pub returns : goal.returns
 returns c = rw (take_all c.loop-word.word-index c.args.words.now c.loop-word-test.false) at c.loop-word.invariant

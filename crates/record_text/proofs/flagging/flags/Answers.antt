@@ -4,7 +4,7 @@ use Rattle.words.specs.Texts.{Text}
 use Rattle.record_text.proofs.Refusing.{flags_read}
 use Rattle.record_text.proofs.flagging.flags.Goals as goal
 
-pub returns-in-ok-pieces : goal.returns-in-ok-pieces
-returns-in-ok-pieces c =
-    let cut = subst (λ (xs : List (Bor Text)). Pieces comma c.args.word.now (map (λ x. x.now) xs)) (sym c.as-slice.ensures.value) c.in-ok-pieces.ensures in
-    flags_read c.args.word.now _ c.args.place c.all_raised.result c.in-default.not-text cut c.all_raised.ensures
+pub returns-in_ok-pieces : goal.returns-in_ok-pieces
+returns-in_ok-pieces c =
+    let cut = subst (λ (xs : List (Bor Text)). Pieces comma c.args.word.now (map (λ x. x.now) xs)) (sym c.as_slice.ensures.value) c.in_ok-pieces.ensures in
+    flags_read c.args.word.now _ c.args.place c.all_raised.result c.in_default.not-text cut c.all_raised.ensures

@@ -5,17 +5,17 @@ use Rattle.record_text.specs.Forms.{shelf}
 use Rattle.std.proofs.lemmas.Result.{err_from_is_err_and}
 use Rattle.std.proofs.Common.{[], ◌∷◌, codes, arith}
 
-pub returns-in-err-head : goal.returns-in-err-head
-returns-in-err-head c =
-    let p = err_from_is_err_and c.from-residual.result c.from-residual.ensures.1 in
-    rw (p.1, p.2) (blame_range (shelf c.args.texts.now) (codes "definition" ∷ c.args.start.now ∷ c.args.end.now ∷ c.args.name.now ∷ c.args.kind.now ∷ c.args.raised.now ∷ []) c.args.start.now c.args.end.now c.in-err-head.field-0.0 (omega arith) (λ nay names i said. let h = at_form _ i (codes "definition" ∷ c.args.start.now ∷ c.args.end.now ∷ c.args.name.now ∷ c.args.kind.now ∷ c.args.raised.now ∷ []) said in nay h.0.range h.4.range) c.in-err-head.ensures)
+pub returns-in_err-head : goal.returns-in_err-head
+returns-in_err-head c =
+    let p = err_from_is_err_and c.from_residual.result c.from_residual.ensures.1 in
+    rw (p.1, p.2) (blame_range (shelf c.args.texts.now) (codes "definition" ∷ c.args.start.now ∷ c.args.end.now ∷ c.args.name.now ∷ c.args.kind.now ∷ c.args.raised.now ∷ []) c.args.start.now c.args.end.now c.in_err-head.field-0.0 (omega arith) (λ nay names i said. let h = at_form _ i (codes "definition" ∷ c.args.start.now ∷ c.args.end.now ∷ c.args.name.now ∷ c.args.kind.now ∷ c.args.raised.now ∷ []) said in nay h.0.range h.4.range) c.in_err-head.ensures)
 
-pub returns-in-err-kind : goal.returns-in-err-kind
-returns-in-err-kind c =
-    let p = err_from_is_err_and c.from-residual-in-err-kind.result c.from-residual-in-err-kind.ensures.1 in
-    rw (p.1, p.2) (blame (shelf c.args.texts.now) (codes "definition" ∷ c.args.start.now ∷ c.args.end.now ∷ c.args.name.now ∷ c.args.kind.now ∷ c.args.raised.now ∷ []) _ 4 c.in-err-kind.field-0.0 (omega arith) (λ nay names i said. let h = at_form _ i (codes "definition" ∷ c.args.start.now ∷ c.args.end.now ∷ c.args.name.now ∷ c.args.kind.now ∷ c.args.raised.now ∷ []) said in nay h.1 h.5) c.in-err-kind.ensures)
+pub returns-in_err-kind : goal.returns-in_err-kind
+returns-in_err-kind c =
+    let p = err_from_is_err_and c.from_residual-in_err-kind.result c.from_residual-in_err-kind.ensures.1 in
+    rw (p.1, p.2) (blame (shelf c.args.texts.now) (codes "definition" ∷ c.args.start.now ∷ c.args.end.now ∷ c.args.name.now ∷ c.args.kind.now ∷ c.args.raised.now ∷ []) _ 4 c.in_err-kind.field-0.0 (omega arith) (λ nay names i said. let h = at_form _ i (codes "definition" ∷ c.args.start.now ∷ c.args.end.now ∷ c.args.name.now ∷ c.args.kind.now ∷ c.args.raised.now ∷ []) said in nay h.1 h.5) c.in_err-kind.ensures)
 
-pub returns-in-err-flags : goal.returns-in-err-flags
-returns-in-err-flags c =
-    let p = err_from_is_err_and c.from-residual-in-err-flags.result c.from-residual-in-err-flags.ensures.1 in
-    rw (p.1, p.2) (blame (shelf c.args.texts.now) (codes "definition" ∷ c.args.start.now ∷ c.args.end.now ∷ c.args.name.now ∷ c.args.kind.now ∷ c.args.raised.now ∷ []) _ 5 c.in-err-flags.field-0.0 (omega arith) (λ nay names i said. let h = at_form _ i (codes "definition" ∷ c.args.start.now ∷ c.args.end.now ∷ c.args.name.now ∷ c.args.kind.now ∷ c.args.raised.now ∷ []) said in nay h.2 h.6) c.in-err-flags.ensures)
+pub returns-in_err-flags : goal.returns-in_err-flags
+returns-in_err-flags c =
+    let p = err_from_is_err_and c.from_residual-in_err-flags.result c.from_residual-in_err-flags.ensures.1 in
+    rw (p.1, p.2) (blame (shelf c.args.texts.now) (codes "definition" ∷ c.args.start.now ∷ c.args.end.now ∷ c.args.name.now ∷ c.args.kind.now ∷ c.args.raised.now ∷ []) _ 5 c.in_err-flags.field-0.0 (omega arith) (λ nay names i said. let h = at_form _ i (codes "definition" ∷ c.args.start.now ∷ c.args.end.now ∷ c.args.name.now ∷ c.args.kind.now ∷ c.args.raised.now ∷ []) said in nay h.2 h.6) c.in_err-flags.ensures)

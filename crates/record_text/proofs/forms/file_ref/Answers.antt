@@ -7,15 +7,15 @@ use Rattle.std.proofs.lemmas.Result.{err_from_is_err_and}
 use Rattle.words.proofs.Numbering.{extends_on}
 use Rattle.std.proofs.Common.{[], ◌∷◌, codes, refl, arith}
 
-pub returns-in-err-head : goal.returns-in-err-head
-returns-in-err-head c =
-    let p = err_from_is_err_and c.from-residual.result c.from-residual.ensures.1 in
-    rw (p.1, p.2) (blame_range (shelf c.args.texts.now) (codes "file_ref" ∷ c.args.start.now ∷ c.args.end.now ∷ c.args.own.now ∷ c.args.specifier.now ∷ c.args.what.now ∷ []) c.args.start.now c.args.end.now c.in-err-head.field-0.0 (omega arith) (λ nay names i said. let h = at_form _ i (codes "file_ref" ∷ c.args.start.now ∷ c.args.end.now ∷ c.args.own.now ∷ c.args.specifier.now ∷ c.args.what.now ∷ []) said in nay h.0.range h.2.range) c.in-err-head.ensures)
+pub returns-in_err-head : goal.returns-in_err-head
+returns-in_err-head c =
+    let p = err_from_is_err_and c.from_residual.result c.from_residual.ensures.1 in
+    rw (p.1, p.2) (blame_range (shelf c.args.texts.now) (codes "file_ref" ∷ c.args.start.now ∷ c.args.end.now ∷ c.args.own.now ∷ c.args.specifier.now ∷ c.args.what.now ∷ []) c.args.start.now c.args.end.now c.in_err-head.field-0.0 (omega arith) (λ nay names i said. let h = at_form _ i (codes "file_ref" ∷ c.args.start.now ∷ c.args.end.now ∷ c.args.own.now ∷ c.args.specifier.now ∷ c.args.what.now ∷ []) said in nay h.0.range h.2.range) c.in_err-head.ensures)
 
 pub returns : goal.returns
 returns c =
-    let named = c.in-ok-head.ensures in
-    let from = c.in-ok-specifier.ensures in
-    let what = c.in-ok-name.ensures in
+    let named = c.in_ok-head.ensures in
+    let from = c.in_ok-specifier.ensures in
+    let what = c.in_ok-name.ensures in
     let more = extends_on _ _ _ from.1 what.1 in
-    (rw c.declared.ensures (_, _, _, _, _, refl, head_kept (shelf c.head.new.texts) _ _ _ _ c.in-ok-head.head more named.0, name_kept _ _ _ c.in-ok-specifier.specifier what.1 from.0, what.0), record { names = extends_on _ _ _ named.1.names more; modules = named.1.modules; packages = named.1.packages })
+    (rw c.declared.ensures (_, _, _, _, _, refl, head_kept (shelf c.head.new.texts) _ _ _ _ c.in_ok-head.head more named.0, name_kept _ _ _ c.in_ok-specifier.specifier what.1 from.0, what.0), record { names = extends_on _ _ _ named.1.names more; modules = named.1.modules; packages = named.1.packages })

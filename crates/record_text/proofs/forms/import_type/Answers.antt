@@ -7,13 +7,13 @@ use Rattle.std.proofs.lemmas.Result.{err_from_is_err_and}
 use Rattle.words.proofs.Numbering.{extends_on}
 use Rattle.std.proofs.Common.{[], ◌∷◌, codes, refl, arith}
 
-pub returns-in-err-path : goal.returns-in-err-path
-returns-in-err-path c =
-    let p = err_from_is_err_and c.from-residual-in-err-path.result c.from-residual-in-err-path.ensures.1 in
-    rw (p.1, p.2) (blame (shelf c.args.texts.now) (codes "import_type" ∷ c.args.specifier.now ∷ c.args.below.now ∷ []) _ 2 c.in-err-path.field-0.0 (omega arith) (λ nay names i said. let h = at_form _ i (codes "import_type" ∷ c.args.specifier.now ∷ c.args.below.now ∷ []) said in not_path_or_none names _ nay h.0 h.2) c.in-err-path.ensures)
+pub returns-in_err-path : goal.returns-in_err-path
+returns-in_err-path c =
+    let p = err_from_is_err_and c.from_residual-in_err-path.result c.from_residual-in_err-path.ensures.1 in
+    rw (p.1, p.2) (blame (shelf c.args.texts.now) (codes "import_type" ∷ c.args.specifier.now ∷ c.args.below.now ∷ []) _ 2 c.in_err-path.field-0.0 (omega arith) (λ nay names i said. let h = at_form _ i (codes "import_type" ∷ c.args.specifier.now ∷ c.args.below.now ∷ []) said in not_path_or_none names _ nay h.0 h.2) c.in_err-path.ensures)
 
 pub returns : goal.returns
 returns c =
-    let named = c.in-ok-specifier.ensures in
-    let below = c.in-ok-path.ensures in
-    (rw c.inner.ensures (_, _, refl, name_kept _ _ _ c.in-ok-specifier.specifier below.1 named.0, below.0), record { names = extends_on _ _ _ named.1 below.1; modules = refl; packages = refl })
+    let named = c.in_ok-specifier.ensures in
+    let below = c.in_ok-path.ensures in
+    (rw c.inner.ensures (_, _, refl, name_kept _ _ _ c.in_ok-specifier.specifier below.1 named.0, below.0), record { names = extends_on _ _ _ named.1 below.1; modules = refl; packages = refl })

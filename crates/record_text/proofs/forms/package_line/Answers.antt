@@ -5,7 +5,7 @@ use Rattle.record_text.specs.Forms.{shelf}
 use Rattle.std.proofs.lemmas.Result.{err_from_is_err_and}
 use Rattle.std.proofs.Common.{[], ◌∷◌, codes, arith}
 
-pub returns-in-err-package : goal.returns-in-err-package
-returns-in-err-package c =
-    let p = err_from_is_err_and c.from-residual.result c.from-residual.ensures.1 in
-    rw (p.1, p.2) (blame (shelf c.args.texts.now) (codes "package" ∷ c.args.name.now ∷ []) _ 1 c.in-err-package.field-0.0 (omega arith) (λ nay names i said. let h = at_form _ i (codes "package" ∷ c.args.name.now ∷ []) said in nay h.0 h.1) c.in-err-package.ensures)
+pub returns-in_err-package : goal.returns-in_err-package
+returns-in_err-package c =
+    let p = err_from_is_err_and c.from_residual.result c.from_residual.ensures.1 in
+    rw (p.1, p.2) (blame (shelf c.args.texts.now) (codes "package" ∷ c.args.name.now ∷ []) _ 1 c.in_err-package.field-0.0 (omega arith) (λ nay names i said. let h = at_form _ i (codes "package" ∷ c.args.name.now ∷ []) said in nay h.0 h.1) c.in_err-package.ensures)

@@ -14,5 +14,5 @@ returns-in-text-2 c = keyed c.args.texts.now c.file_ref.new.texts _ _ _ c.file_r
 pub returns-in-definition : goal.returns-in-definition
 returns-in-definition c = keyed c.args.texts.now c.definition.new.texts _ _ _ c.definition.result c.in-definition.is c.definition.ensures
 
-pub returns-in-default : goal.returns-in-default
-returns-in-default c = blame (shelf c.args.texts.now) (c.args.keyword.now ∷ c.args.a.now ∷ c.args.b.now ∷ c.args.c.now ∷ c.args.d.now ∷ c.args.e.now ∷ []) _ 0 c.misfit.result (omega arith) (λ _. no_keyword (shelf c.args.texts.now) c.args.keyword.now (c.args.a.now ∷ c.args.b.now ∷ c.args.c.now ∷ c.args.d.now ∷ c.args.e.now ∷ []) (c.in-default.not-text, (c.in-default.not-text-2, (c.in-default.not-definition, tt)))) c.misfit.ensures
+pub returns-in_default : goal.returns-in_default
+returns-in_default c = blame (shelf c.args.texts.now) (c.args.keyword.now ∷ c.args.a.now ∷ c.args.b.now ∷ c.args.c.now ∷ c.args.d.now ∷ c.args.e.now ∷ []) _ 0 c.misfit.result (omega arith) (λ _. no_keyword (shelf c.args.texts.now) c.args.keyword.now (c.args.a.now ∷ c.args.b.now ∷ c.args.c.now ∷ c.args.d.now ∷ c.args.e.now ∷ []) (c.in_default.not-text, (c.in_default.not-text-2, (c.in_default.not-definition, tt)))) c.misfit.ensures

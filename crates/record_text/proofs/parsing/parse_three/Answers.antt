@@ -6,7 +6,7 @@ use Rattle.record_text.proofs.Shapes.{no_keyword}
 use Rattle.record_text.proofs.parsing.parse_three.Goals as goal
 
 pub returns-in-text : goal.returns-in-text
-returns-in-text c = keyed c.args.texts.now c.export-all.new.texts _ _ _ c.export-all.result c.in-text.is c.export-all.ensures
+returns-in-text c = keyed c.args.texts.now c.export_all.new.texts _ _ _ c.export_all.result c.in-text.is c.export_all.ensures
 
-pub returns-in-default : goal.returns-in-default
-returns-in-default c = blame (shelf c.args.texts.now) (c.args.keyword.now ∷ c.args.a.now ∷ c.args.b.now ∷ c.args.c.now ∷ []) _ 0 c.misfit.result (omega arith) (λ _. no_keyword (shelf c.args.texts.now) c.args.keyword.now (c.args.a.now ∷ c.args.b.now ∷ c.args.c.now ∷ []) (c.in-default.not-text, tt)) c.misfit.ensures
+pub returns-in_default : goal.returns-in_default
+returns-in_default c = blame (shelf c.args.texts.now) (c.args.keyword.now ∷ c.args.a.now ∷ c.args.b.now ∷ c.args.c.now ∷ []) _ 0 c.misfit.result (omega arith) (λ _. no_keyword (shelf c.args.texts.now) c.args.keyword.now (c.args.a.now ∷ c.args.b.now ∷ c.args.c.now ∷ []) (c.in_default.not-text, tt)) c.misfit.ensures

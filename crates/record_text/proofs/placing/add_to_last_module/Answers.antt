@@ -8,7 +8,7 @@ pub returns-in-Some : goal.returns-in-Some
 returns-in-Some c =
     let items = c.args.modules.now in
     let last = c.in-Some.ensures.item in
-    adds_last module_of (in_module c.args.part) items.items items.len c.in-Some.module.now c.add-to-module.new.module c.add-to-module.result items.ok.0 (omega (arith, last.3.0, items.ok.0)) last.1 c.add-to-module.ensures
+    adds_last module_of (in_module c.args.part) items.items items.len c.in-Some.module.now c.add_to_module.new.module c.add_to_module.result items.ok.0 (omega (arith, last.3.0, items.ok.0)) last.1 c.add_to_module.ensures
 
 pub returns-in-None : goal.returns-in-None
 returns-in-None c = none_last module_of (in_module c.args.part) c.args.modules.now.items (omega (arith, c.in-None.ensures.item.3))

@@ -13,4 +13,4 @@ pub returns : goal.returns
 returns c =
     let items = c.args.draft.now.table.modules in
     next_number module_of items.items c.args.module.0 items.len _ _ items.ok.0 (c.if-module-len.false ∙ c.len.ensures)
-    ∙ ap (λ xs. Some (with_modules (program_of c.args.draft.now.table) xs)) (pushed_of module_of _ _ c.module_begun.result _ c.in-ok-push.ensures.items c.module_begun.ensures)
+    ∙ ap (λ xs. Some (with_modules (program_of c.args.draft.now.table) xs)) (pushed_of module_of _ _ c.module_begun.result _ c.in_ok-push.ensures.items c.module_begun.ensures)

@@ -13,4 +13,4 @@ pub returns : goal.returns
 returns c =
     let items = c.args.draft.now.table.packages in
     next_number package_of items.items c.args.package.0 items.len _ _ items.ok.0 (c.if-package-len.false ∙ c.len.ensures)
-    ∙ ap (λ xs. Some (with_packages (program_of c.args.draft.now.table) xs)) (pushed_of package_of _ _ c.package_begun.result _ c.in-ok-push.ensures.items c.package_begun.ensures)
+    ∙ ap (λ xs. Some (with_packages (program_of c.args.draft.now.table) xs)) (pushed_of package_of _ _ c.package_begun.result _ c.in_ok-push.ensures.items c.package_begun.ensures)

@@ -1,4 +1,4 @@
-use Rattle.std.proofs.Common.{◌≡◌, [], ◌∷◌, reverse, get_or, vec_items, sym, refl, ap, ◌∙◌, subst, arith}
+use Rattle.std.proofs.Common.{[], ◌∷◌, reverse, get_or, vec_items, sym, refl, ap, ◌∙◌, subst, arith}
 use Rattle.std.proofs.lemmas.List.{reverse-append}
 use Rattle.std.proofs.lemmas.Option.{slice_get-get_or}
 use Rattle.routes.specs.Routes.{Trail, here, on, start_of, step_of}
@@ -18,5 +18,5 @@ loop-at-preserved c =
     let there = slice_get-get_or rs at (start_of (record { 0 = 0 })) c.loop-at.invariant.0 in
     let lower = c.requires.down at one c.loop-at-test.true there in
     let turned = reverse-append (vec_items c.loop-at.steps) (step_of one ∷ []) in
-    let steps = ap reverse c.in-ok-push.ensures.items ∙ turned in
+    let steps = ap reverse c.in_ok-push.ensures.items ∙ turned in
     (omega (arith, lower, c.loop-at.invariant.0), subst (λ l. Trail rs c.args.end one.from l) (sym steps) (on c.loop-at-test.true there refl c.loop-at.invariant.1))

@@ -3,8 +3,8 @@ use Rattle.record_text.proofs.Faulting.{faulted_below, words_unsaid, item_unplac
 use Rattle.record_text.proofs.Recorded.{nothing_added, item_added}
 use Rattle.record_text.proofs.listing.Reader.add_words.Goals as goal
 
-pub returns-in-default : goal.returns-in-default
-returns-in-default c = nothing_added c.args.self.now c.args.words.now c.in-default.ensures.cases
+pub returns-in_default : goal.returns-in_default
+returns-in_default c = nothing_added c.args.self.now c.args.words.now c.in_default.ensures.cases
 
 pub at-requires : goal.at-requires
 at-requires c = faulted_below (shelf c.args.self.now.texts) c.args.words.now c.in-Some.keyword.now c.in-Some.rest.now c.in-Err.unread c.in-Some.ensures.cases.0 c.in-Err.ensures
