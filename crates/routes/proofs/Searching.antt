@@ -1,7 +1,7 @@
 -- A search goes on, and what it means that it ends. Assumes nothing.
 use Rattle.std.proofs.Common.{◌≡◌, ℕ, zero, suc, ◌+◌, ◌<◌, ◌≤◌, true, false, eqb, leb, ◌⊎◌, List, [], ◌∷◌, ◌++◌, length, is_some, Some, sym, refl, ap, ◌∙◌, subst, inl, inr, append_assoc, append-nil, arith}
 use Rattle.std.proofs.lemmas.Bool.{eqb-true, eq-eqb, leb-true, le-leb, or_cases, or_left, or_right, cases_lt, true≢false, false≢true}
-use Rattle.std.specs.List.{AllByRecursion as All, slice_get}
+use Rattle.std.specs.List.{AllByRecursion, slice_get}
 use Rattle.ids.specs.declared.numbers.ModuleId.{ModuleId}
 use Rattle.ids.specs.declared.numbers.NameId.{NameId}
 use Rattle.host.specs.Program.{Program}
@@ -25,10 +25,10 @@ nth_kept (y ∷ xs) new zero x h = h
 nth_kept (y ∷ xs) new (suc k) x h = nth_kept xs new k x h
 
 -- what stands at a place of both lists stood there before, or is new and stands behind
-nth_either : {X : Type 0} (P : X → Type 0) (xs new : List X) (k : ℕ) (x : X) → All P new → slice_get (xs ++ new) k ≡ Some x → (slice_get xs k ≡ Some x) ⊎ ((length xs ≤ k) × P x)
+nth_either : {X : Type 0} (P : X → Type 0) (xs new : List X) (k : ℕ) (x : X) → AllByRecursion P new → slice_get (xs ++ new) k ≡ Some x → (slice_get xs k ≡ Some x) ⊎ ((length xs ≤ k) × P x)
 nth_either {X = X} P [] new k x all h = inr (omega arith, at new k all h)
   where
-    at : (ys : List X) (j : ℕ) → All P ys → slice_get ys j ≡ Some x → P x
+    at : (ys : List X) (j : ℕ) → AllByRecursion P ys → slice_get ys j ≡ Some x → P x
     at [] j all' e = absurd (true≢false (sym (ap is_some e)))
     at (y ∷ ys) zero all' e = let same : y ≡ x = cc in subst P same all'.0
     at (y ∷ ys) (suc j) all' e = at ys j all'.1 e

@@ -1,6 +1,6 @@
 -- What a search through export-alls has reached, step by step. Assumes nothing.
 use Rattle.std.specs.Prelude.{◌≡◌, ℕ, Bool, true, false, cond, ◌||◌, List, [], ◌∷◌, ◌++◌, map, length, nat_le}
-use Rattle.std.specs.List.{AllByRecursion as All}
+use Rattle.std.specs.List.{AllByRecursion}
 use Rattle.ids.specs.declared.numbers.ModuleId.{ModuleId}
 use Rattle.host.specs.Program.{Program}
 use Rattle.resolution.specs.Targets.{stands}
@@ -34,6 +34,6 @@ module _ (p : Program) where
   pub record Spread (x : ModuleId) (from : ℕ) (P : ℕ → Type 0) (before after : List Reached) : Type 0 where
     pub new : List Reached
     pub grown : after ≡ before ++ new
-    pub led : All (Led x from) new
+    pub led : AllByRecursion (Led x from) new
     pub fresh : Fresh before new
     pub all_known : (i : ℕ) (z : ModuleId) → P i → Leads p x i z → known after (stands p z) ≡ true

@@ -3,7 +3,7 @@ use Rattle.std.proofs.Common.{◌≡◌, ℕ, ◌<◌, true, List, map, length, 
 use Rattle.std.specs.Option.{option_map}
 use Rattle.std.specs.Str.Iter.{LacksByte, IsSplitnRun, CutsAtEveryByte}
 use Rattle.std.specs.Iterator.Runs.{Run, AllItems, EachRunFrom, WholeRun}
-use Rattle.std.specs.List.{AllByRecursion as All}
+use Rattle.std.specs.List.{AllByRecursion}
 use Rattle.std.proofs.ByRecursion.{all_from_every, All-map}
 use Rattle.std.proofs.lemmas.List.{length-map}
 use Rattle.script.specs.Texts.{Text}
@@ -14,7 +14,7 @@ came P None x e h = let z : ◌≡◌ {A = ℕ} 0 1 = cc in absurd (omega arith)
 came P (Some y) x e h = let same : y ≡ x = cc in subst P same h
 
 module _ {S : Type 0} {steps : S → Option (Bor Text) → S → Type 0} where
-  dotless_items : (p : Run steps) → AllItems p (λ x. LacksByte dot x.now) → All (λ x. LacksByte dot x.now) p.items
+  dotless_items : (p : Run steps) → AllItems p (λ x. LacksByte dot x.now) → AllByRecursion (λ x. LacksByte dot x.now) p.items
   dotless_items p each = all_from_every _ p.items (λ k d low high. came (λ x. LacksByte dot x.now) (p.at k) (get_or p.items k d) (p.reads k d (omega (arith, p.long))) (each k))
 
   -- what a whole run of `split` gave are the pieces of the text

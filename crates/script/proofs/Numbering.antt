@@ -1,6 +1,6 @@
 -- Lemmas on names that get numbers in a table that grows.
 use Rattle.std.proofs.Common.{◌≡◌, ℕ, ◌+◌, ◌<◌, ◌≤◌, eqb, List, [], ◌∷◌, ◌++◌, map, length, get_or, take, Some, None, Err, Option, unwrap_or, sym, refl, ap, ◌∙◌, subst, arith, Bor, MatchOption}
-use Rattle.std.specs.List.{ContainsAt as Has, AllByRecursion as All}
+use Rattle.std.specs.List.{ContainsAt as Has, AllByRecursion}
 use Rattle.std.proofs.ByRecursion.{All-push, All-weaker, has_get_or}
 use Rattle.std.proofs.lemmas.List.{append_assoc, length-append, length-map, get_or_append_left, get_or-map, map_push, map_more}
 use Rattle.std.proofs.lemmas.Bool.{cond-false, ne_eqb}
@@ -77,7 +77,7 @@ spells before ps after w ns cut old =
     record {
       known = old.known;
       pieces = subst (Pieces w) (sym old.same) cut;
-      solid = subst (All (λ t. 0 < length t)) (sym old.same) old.solid;
+      solid = subst (AllByRecursion (λ t. 0 < length t)) (sym old.same) old.solid;
     }
 
 -- pieces that are not all names spell none

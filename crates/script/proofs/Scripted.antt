@@ -1,7 +1,7 @@
 -- Lemmas on what the lines of a text add.
 use Rattle.std.proofs.Common.{◌≡◌, ℕ, ◌+◌, ◌<◌, ◌≤◌, List, [], ◌∷◌, ◌++◌, length, Ok, Err, string_bytes, Result, sym, refl, ap, ◌∙◌, subst, arith, Bor}
 use Rattle.std.specs.Str.Lines.{IsFirstLine as FirstLine}
-use Rattle.std.specs.List.{AllByRecursion as All}
+use Rattle.std.specs.List.{AllByRecursion}
 use Rattle.std.proofs.lemmas.List.{append_assoc, append-nil, length_push, nil_from_length}
 use Rattle.joining.specs.declared.requests.Request.{Request}
 use Rattle.joining.specs.declared.requests.Request.TheVariants.{Path as Ask, Star, Full}
@@ -140,7 +140,7 @@ asks_knows ts w Full h = tt
 asks_knows ts w (Ask p) h = h.0.known
 
 module _ (mods names : List Text) where
-  rows_all : (P : Line → Type 0) → ((k : ℕ) (m w : Text) (x : Line) → Tells mods names k m w x → P x) → (k : ℕ) (ls : List Text) (xs : List Line) → Rows mods names k ls xs → All P xs
+  rows_all : (P : Line → Type 0) → ((k : ℕ) (m w : Text) (x : Line) → Tells mods names k m w x → P x) → (k : ℕ) (ls : List Text) (xs : List Line) → Rows mods names k ls xs → AllByRecursion P xs
   rows_all P each k [] xs none = rw none tt
   rows_all P each k (l ∷ ls) xs ([], rest, e, row, rows) = rw e (rows_all P each (k + 1) ls rest rows)
   rows_all P each k (l ∷ ls) xs (x ∷ [], rest, e, (m, w, says, tells), rows) = rw e (each k m w x tells, rows_all P each (k + 1) ls rest rows)

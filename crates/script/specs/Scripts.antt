@@ -1,7 +1,7 @@
 -- What is read of a whole text. Assumes nothing.
 use Rattle.std.specs.Prelude.{◌≡◌, ℕ, ◌+◌, ◌<◌, ◌≤◌, List, [], ◌∷◌, ◌++◌, length, Ok, Err, vec_items, string_bytes, Result}
 use Rattle.std.specs.Str.Lines.{IsFirstLine as FirstLine}
-use Rattle.std.specs.List.{AllByRecursion as All}
+use Rattle.std.specs.List.{AllByRecursion}
 use Rattle.ids.specs.Paths.{names_of}
 use Rattle.joining.specs.declared.requests.Request.{Request}
 use Rattle.joining.specs.declared.requests.Request.TheVariants.{Path as Ask, Star, Full}
@@ -89,8 +89,8 @@ Climbs k (x ∷ xs) = (k ≤ x.number) × Climbs (x.number + 1) xs
 -- and the lines ascend
 pub record Script (mods names : List Text) (w : Text) (xs : List Line) : Type 0 where
   pub begun : Extends firsts names
-  pub placed : All (λ x. x.«module».0 < length mods) xs
-  pub known : All (λ x. Knows names x.request) xs
+  pub placed : AllByRecursion (λ x. x.«module».0 < length mods) xs
+  pub known : AllByRecursion (λ x. Knows names x.request) xs
   pub climbs : Climbs 1 xs
   pub ls : List Text
   pub lines : Lines w ls []

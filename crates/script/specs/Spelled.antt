@@ -1,6 +1,6 @@
 -- How a path is spelled: its names, with a dot between each two. Assumes nothing.
 use Rattle.std.specs.Prelude.{◌≡◌, ℕ, ◌<◌, cond, List, [], ◌∷◌, ◌++◌, map, length, codes, ◌==◌, ◌≢◌}
-use Rattle.std.specs.List.{join_with_byte, AllByRecursion as All}
+use Rattle.std.specs.List.{join_with_byte, AllByRecursion}
 use Rattle.std.specs.Str.Iter.{LacksByte}
 use Rattle.ids.specs.declared.numbers.NameId.{NameId}
 use Rattle.ids.specs.declared.path_struct.Path.{Path}
@@ -17,7 +17,7 @@ dot = 46
 pub record Pieces (w : Text) (ps : List Text) : Type 0 where
   pub some : 0 < length ps
   pub whole : w ≡ join_with_byte dot ps
-  pub dotless : All (LacksByte dot) ps
+  pub dotless : AllByRecursion (LacksByte dot) ps
 
 -- the texts of some names
 abbrev pub texts_of : List Text → List NameId → List Text
@@ -25,7 +25,7 @@ texts_of ts ns = map (λ n. text_at ts n.0) ns
 
 -- every name has a text
 abbrev pub Known : List Text → List NameId → Type 0
-Known ts ns = All (λ n. n.0 < length ts) ns
+Known ts ns = AllByRecursion (λ n. n.0 < length ts) ns
 
 -- a path written out
 abbrev pub spelled : List Text → Path → Text
@@ -35,7 +35,7 @@ spelled ts p = join_with_byte dot (texts_of ts (names_of p))
 pub record Spells (ts : List Text) (w : Text) (ns : List NameId) : Type 0 where
   pub known : Known ts ns
   pub pieces : Pieces w (texts_of ts ns)
-  pub solid : All (λ t. 0 < length t) (texts_of ts ns)
+  pub solid : AllByRecursion (λ t. 0 < length t) (texts_of ts ns)
 
 -- the word without the dot that it may begin with
 abbrev pub bare : Text → Text
@@ -56,5 +56,5 @@ Extends before after = (more : List Text) × (after ≡ before ++ more)
 pub record Numbers (before ps after : List Text) (ns : List NameId) : Type 0 where
   pub same : texts_of after ns ≡ ps
   pub known : Known after ns
-  pub solid : All (λ t. 0 < length t) ps
+  pub solid : AllByRecursion (λ t. 0 < length t) ps
   pub grown : Extends before after

@@ -2,15 +2,15 @@
 use Rattle.std.specs.Prelude.{◌≡◌, ℕ, ◌<◌, true, false, ◌⊎◌, List, [], ◌∷◌, ◌++◌, length, slice_index}
 use Rattle.std.specs.Str.Iter.{LacksByte}
 use Rattle.std.specs.Char.{is_ascii_whitespace}
-use Rattle.std.specs.List.{AllByRecursion as All}
+use Rattle.std.specs.List.{AllByRecursion}
 use Rattle.script.specs.Texts.{Text}
 
 -- nothing but white space; no white space
 abbrev pub Blank : Text → Type 0
-Blank bs = All (λ b. is_ascii_whitespace b ≡ true) bs
+Blank bs = AllByRecursion (λ b. is_ascii_whitespace b ≡ true) bs
 
 abbrev pub Solid : Text → Type 0
-Solid bs = All (λ b. is_ascii_whitespace b ≡ false) bs
+Solid bs = AllByRecursion (λ b. is_ascii_whitespace b ≡ false) bs
 
 -- bs is white space, the word w, and rest, which is empty or begins with white space
 pub record First (bs w rest : Text) : Type 0 where
