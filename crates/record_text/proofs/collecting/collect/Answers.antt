@@ -7,7 +7,7 @@ use Rattle.record_text.proofs.collecting.collect.Goals as goal
 pub loop-line-init : goal.loop-line-init
 loop-line-init c =
     let start = c.in_ok-texts.ensures in
-    none_yet _ _ _ (ap lines_rest c.into_iter-line-iterator.ensures.into_iter-gives ∙ c.lines-line-items.ensures.rest) start.0 start.1 start.2
+    none_yet _ _ _ (ap lines_rest c.into_iter-line-iterator.ensures.into_iter_gives ∙ c.lines-line-items.ensures.rest) start.0 start.1 start.2
 
 pub loop-line-preserved : goal.loop-line-preserved
 loop-line-preserved c =
