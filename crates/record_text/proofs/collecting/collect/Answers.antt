@@ -1,5 +1,4 @@
 use Rattle.std.proofs.Common.{ap, ◌∙◌}
-use Rattle.std.proofs.lemmas.Result.{err_from_is_err_and}
 use Rattle.std.specs.Str.Iter.{lines_rest}
 use Rattle.record_text.proofs.Collected.{none_yet, one_more, all_seen}
 use Rattle.record_text.proofs.collecting.collect.Goals as goal
