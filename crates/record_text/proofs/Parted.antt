@@ -1,6 +1,6 @@
 -- The pieces of a word are one list and no other.
 use Rattle.std.proofs.Common.{◌≡◌, ℕ, suc, ◌<◌, List, [], ◌∷◌, ◌++◌, length, sym, refl, ap, ◌∙◌, subst, arith}
-use Rattle.std.specs.List.{join_with_byte, AllByRecursion as All}
+use Rattle.std.specs.List.{join_with_byte, AllByRecursion}
 use Rattle.std.specs.Str.Iter.{LacksByte}
 use Rattle.std.proofs.ByRecursion.{all-has}
 use Rattle.std.proofs.lemmas.List.{length-map, length-take}
@@ -34,7 +34,7 @@ same_front c (a ∷ x) (b ∷ y) r s lx ly e =
     let fronts : x ≡ y = more.front in
     record { front = cc; rest = more.rest }
 
-same_pieces : (c : ℕ) (ps qs : List (List ℕ)) → 0 < length ps → 0 < length qs → All (LacksByte c) ps → All (LacksByte c) qs → join_with_byte c ps ≡ join_with_byte c qs → ps ≡ qs
+same_pieces : (c : ℕ) (ps qs : List (List ℕ)) → 0 < length ps → 0 < length qs → AllByRecursion (LacksByte c) ps → AllByRecursion (LacksByte c) qs → join_with_byte c ps ≡ join_with_byte c qs → ps ≡ qs
 same_pieces c [] qs p q lp lq e = absurd (omega arith)
 same_pieces c (x ∷ ps) [] p q lp lq e = absurd (omega arith)
 same_pieces c (x ∷ []) (y ∷ []) p q lp lq e = ap (λ z. z ∷ []) e
@@ -53,7 +53,7 @@ pieces_one c w ps qs a b = same_pieces c ps qs a.some b.some a.unmarked b.unmark
 -- a word with an empty piece, or with too many, spells no path
 pub empty_name : (w : Text) → Unspelled w EmptyName → Pathless w
 empty_name w (ps, cut, has) names p said =
-    let solid = subst (All (λ t. 0 < length t)) (pieces_one dot w _ ps said.pieces cut) said.solid in
+    let solid = subst (AllByRecursion (λ t. 0 < length t)) (pieces_one dot w _ ps said.pieces cut) said.solid in
     absurd (omega (arith, all-has (λ t. 0 < length t) ps [] solid has))
 
 pub too_many_names : (w : Text) (n : ℕ) → Unspelled w (TooManyNames n) → Pathless w

@@ -1,6 +1,6 @@
 -- Lemmas on words that are refused.
 use Rattle.std.proofs.Common.{◌≡◌, ℕ, ◌<◌, List, [], ◌∷◌, map, length, get_or, Some, None, Ok, Err, Result, sym, refl, subst, inr, ⊎_elim, arith, Bor}
-use Rattle.std.specs.List.{ContainsAt as Has, AllByRecursion as All}
+use Rattle.std.specs.List.{ContainsAt as Has, AllByRecursion}
 use Rattle.std.proofs.ByRecursion.{all-has}
 use Rattle.host.specs.declared.told.SymbolDeclFlags.{SymbolDeclFlags}
 use Rattle.words.specs.Paths.{Unspelled}
@@ -47,7 +47,7 @@ path_refused w (TooManyNames n) k u e h = subst (Refused (Pathless w) k) (sym e)
 path_refused w TooManyDistinctNames k u e h = subst (Refused (Pathless w) k) (sym e) tt
 path_refused w NoRoom k u e h = subst (Refused (Pathless w) k) (sym e) tt
 
-all_named : (fs : List Flag) → All (λ w. (f : Flag) × (w ≡ flag_word f)) (map flag_word fs)
+all_named : (fs : List Flag) → AllByRecursion (λ w. (f : Flag) × (w ≡ flag_word f)) (map flag_word fs)
 all_named [] = tt
 all_named (f ∷ fs) = ((f, refl), all_named fs)
 

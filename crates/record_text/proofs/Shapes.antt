@@ -1,6 +1,6 @@
 -- The form of a line is known by its keyword, and each form by its words.
 use Rattle.std.proofs.Common.{◌≡◌, ℕ, ◌≤◌, true, false, cond, eqb, ◌⊎◌, List, [], ◌∷◌, length, get_or, codes, Option, sym, refl, subst, inl, inr, ⊎_elim, arith}
-use Rattle.std.specs.List.{ContainsAt as Has, AllByRecursion as All}
+use Rattle.std.specs.List.{ContainsAt as Has, AllByRecursion}
 use Rattle.std.specs.Str.{bytes_eq}
 use Rattle.std.proofs.ByRecursion.{all-has}
 use Rattle.ids.specs.declared.numbers.ModuleId.{ModuleId}
@@ -188,7 +188,7 @@ listed a_import_type n e = subst (λ (m : ℕ). Has (keywords m) (codes "import-
 listed other n h = absurd h
 
 -- a line whose keyword is none of those of so many words says nothing
-pub no_keyword : (t : Shelf) (k : Text) (ws : List Text) → All (λ x. k ≡ x → ⊥) (keywords (length (k ∷ ws))) → Unsaid t (k ∷ ws)
+pub no_keyword : (t : Shelf) (k : Text) (ws : List Text) → AllByRecursion (λ x. k ≡ x → ⊥) (keywords (length (k ∷ ws))) → Unsaid t (k ∷ ws)
 no_keyword t k ws none names i said =
     let s = shape (record { names = names; modules = t.modules; packages = t.packages }) i (k ∷ ws) said in
     all-has (λ x. k ≡ x → ⊥) (keywords (length (k ∷ ws))) (form_word s.0) none (listed s.0 (length (k ∷ ws)) s.2) s.1

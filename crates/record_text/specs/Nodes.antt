@@ -1,6 +1,6 @@
 -- The word of each kind of syntax. Assumes nothing.
 use Rattle.std.specs.Prelude.{◌≡◌, ℕ, List, [], ◌∷◌, Some, None, codes, Option, Result, ◌≢◌}
-use Rattle.std.specs.List.{AllByRecursion as All}
+use Rattle.std.specs.List.{AllByRecursion}
 use Rattle.host.specs.declared.node_kinds.NodeKind.{NodeKind}
 use Rattle.host.specs.declared.node_kinds.NodeKind.TheVariants.{Module, ExportDefaultExpr, ClassDecl, FnDecl, TsEnum, TsInterface, TsNamespace, TsTypeAlias, Var, UsingVar, AutoAccessor, ClassMethod, ClassProp, ClassParamProp, Constructor, ExpandoProperty, TsIndexSignature, TsCallSignatureDecl, TsConstructSignatureDecl, TsPropertySignature, TsGetterSignature, TsSetterSignature, TsMethodSignature, ExportClass, ExportFn, ExportVar, ExportTsEnum, ExportTsInterface, ExportTsModule, ExportTsTypeAlias, DefaultFn, DefaultTsInterface, DefaultClass}
 use Rattle.words.specs.Texts.{Text}
@@ -53,7 +53,7 @@ exported_nodes = ExportClass ∷ ExportFn ∷ ExportVar ∷ ExportTsEnum ∷ Exp
 
 -- w is the word of one of these kinds, or of none
 abbrev pub NodeFound : List NodeKind → Text → Option NodeKind → Type 0
-NodeFound ks w None = All (λ k. w ≢ node_word k) ks
+NodeFound ks w None = AllByRecursion (λ k. w ≢ node_word k) ks
 NodeFound ks w (Some k) = w ≡ node_word k
 
 abbrev pub NodeKindRead : Text → ℕ → Result NodeKind Unread → Type 0
