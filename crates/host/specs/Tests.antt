@@ -1,5 +1,5 @@
 -- The rules of the records as tests that compute, field by field as in Rules.antt. Assumes nothing.
-use Rattle.std.specs.Prelude.{ℕ, suc, ◌^◌, Bool, true, false, not, ◌&&◌, ◌||◌, ltb, List, [], ◌∷◌, map, length, Some, None, Option, ◌==◌, nat_le, nat_lt}
+use Rattle.std.specs.Prelude.{ℕ, suc, ◌^◌, Bool, true, false, not, ◌&&◌, ◌||◌, List, [], ◌∷◌, map, length, Some, None, Option, ◌==◌, nat_le, nat_lt}
 use Rattle.std.specs.List.{slice_get}
 use Rattle.ids.specs.Paths.{names_of}
 use Rattle.ids.specs.declared.numbers.ModuleId.{ModuleId}
@@ -76,10 +76,10 @@ export_known names symbols e = name_known names e.name && symbol_known symbols e
 
 abbrev pub symbol_kept : ℕ → ℕ → ℕ → Symbol → Bool
 symbol_kept names symbols i s =
-    held s.parent (λ p. ltb p.0 i) && (nat_le 1 (length s.decls) && (nat_le (length s.decls) list_limit && (all (decl_kept names symbols) s.decls && (nat_le (length s.exports) list_limit && (all (export_known names symbols) s.exports && (distinct (map (λ e. e.name.0) s.exports) && (nat_le (length s.members) list_limit && all (symbol_known symbols) s.members)))))))
+    held s.parent (λ p. nat_lt p.0 i) && (nat_le 1 (length s.decls) && (nat_le (length s.decls) list_limit && (all (decl_kept names symbols) s.decls && (nat_le (length s.exports) list_limit && (all (export_known names symbols) s.exports && (distinct (map (λ e. e.name.0) s.exports) && (nat_le (length s.members) list_limit && all (symbol_known symbols) s.members)))))))
 
 abbrev pub dependency_kept : ℕ → ℕ → Dependency → Bool
-dependency_kept names modules d = name_known names d.specifier && held d.target (λ t. ltb t.0 modules)
+dependency_kept names modules d = name_known names d.specifier && held d.target (λ t. nat_lt t.0 modules)
 
 abbrev pub re_export_all_kept : ℕ → ReExportAll → Bool
 re_export_all_kept names e = range_kept e.range && name_known names e.specifier
@@ -94,7 +94,7 @@ lists_kept External dependencies re_export_alls symbols = dependencies == 0 && (
 
 abbrev pub module_kept : ℕ → ℕ → ℕ → Module → Bool
 module_kept names packages modules m =
-    held m.«package» (λ p. ltb p.0 packages) && (held m.types (λ t. ltb t.0 modules) && (held m.types (λ t. is_typed m.kind) && (lists_kept m.kind (length m.dependencies) (length m.re_export_alls) (length m.symbols) && (nat_le (length m.dependencies) list_limit && (all (dependency_kept names modules) m.dependencies && (distinct (map (λ d. d.specifier.0) m.dependencies) && (nat_le (length m.re_export_alls) list_limit && (all (re_export_all_kept names) m.re_export_alls && (nat_le (length m.symbols) list_limit && all_at (symbol_kept names (length m.symbols)) 0 m.symbols)))))))))
+    held m.«package» (λ p. nat_lt p.0 packages) && (held m.types (λ t. nat_lt t.0 modules) && (held m.types (λ t. is_typed m.kind) && (lists_kept m.kind (length m.dependencies) (length m.re_export_alls) (length m.symbols) && (nat_le (length m.dependencies) list_limit && (all (dependency_kept names modules) m.dependencies && (distinct (map (λ d. d.specifier.0) m.dependencies) && (nat_le (length m.re_export_alls) list_limit && (all (re_export_all_kept names) m.re_export_alls && (nat_le (length m.symbols) list_limit && all_at (symbol_kept names (length m.symbols)) 0 m.symbols)))))))))
 
 abbrev pub is_number : ℕ → Option ℕ → Bool
 is_number i None = false

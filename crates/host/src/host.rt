@@ -65,6 +65,6 @@ pub trait Host {
     ) -> Option<SymbolNodeDep>
         ensures { result ≡ at.dep_at (program self.now) «module» symbol decl place };
 
-    // it keeps the rules of the records
+    // the program keeps the rules of the records
     ghost kept: { (h : Self) → valid (program h) ≡ true };
 }

@@ -38,8 +38,8 @@ module _ (p q : Path) (same : names_of p ≡ names_of q) where
   same_len : p.len ≡ q.len
   same_len = sym (length_names p) ∙ ap length same ∙ length_names q
 
-  same_names : p.names ≡ q.names
-  same_names =
+  names_alike : p.names ≡ q.names
+  names_alike =
       let long : length (drop p.len p.names) ≡ length (drop q.len q.names) = simp length-drop (omega (arith, p.wide, q.wide, same_len)) in
       let rest = blank_same (drop p.len p.names) (drop q.len q.names) long p.padded q.padded in
       let a = take-append-drop p.len p.names in
@@ -49,12 +49,12 @@ module _ (p q : Path) (same : names_of p ≡ names_of q) where
   -- paths of the same names are the same
   pub same_path : p ≡ q
   same_path = λ i. record {
-    names = same_names i;
+    names = names_alike i;
     len = same_len i;
-    wide = is_prop→PathP (λ j. length (same_names j) ≡ limit) (λ j. ℕ_set (length (same_names j)) limit) p.wide q.wide i;
+    wide = is_prop→PathP (λ j. length (names_alike j) ≡ limit) (λ j. ℕ_set (length (names_alike j)) limit) p.wide q.wide i;
     some = is_prop→PathP (λ j. 1 ≤ same_len j) (λ j. le_prop {n = 1} {m = same_len j}) p.some q.some i;
     few = is_prop→PathP (λ j. same_len j ≤ limit) (λ j. le_prop {n = same_len j} {m = limit}) p.few q.few i;
-    padded = is_prop→PathP (λ j. blank (drop (same_len j) (same_names j)) ≡ true) (λ j. Bool-set (blank (drop (same_len j) (same_names j))) true) p.padded q.padded i;
+    padded = is_prop→PathP (λ j. blank (drop (same_len j) (names_alike j)) ≡ true) (λ j. Bool-set (blank (drop (same_len j) (names_alike j))) true) p.padded q.padded i;
   }
 
 -- what `==` on slices of names says

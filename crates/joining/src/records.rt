@@ -162,7 +162,8 @@ impl Records {
     {
         match request {
             Request::Path(path) => {
-                if any(&self.rows, module, &Covers(path)) {
+                let covered = any(&self.rows, module, &Covers(path));
+                if covered {
                     return None;
                 }
                 self.keep(module, path);
@@ -184,7 +185,8 @@ impl Records {
         ensures out { Some result ≡ handed (spec.record_of self.old «module») Request.Star }
         ensures changes { spec.Changes self.old self.new «module» (joined (spec.record_of self.old «module») Request.Star) }
     {
-        if !any(&self.rows, module, &OfDefault) {
+        let has_default = any(&self.rows, module, &OfDefault);
+        if !has_default {
             self.reset(module, Extent::Star);
             return Request::Star;
         }

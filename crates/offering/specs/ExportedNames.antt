@@ -48,7 +48,7 @@ mutual
   pub data StarNames (p : Program) : ModuleId → List ReExportAll → List ModuleId → List NameId → List NameId → List ModuleId → Type 0 where
     over : {x : ModuleId} {set : List ModuleId} {names : List NameId} → StarNames p x [] set names names set
     lost : {x : ModuleId} {e : ReExportAll} {es : List ReExportAll} {set : List ModuleId} {so_far names : List NameId} {after : List ModuleId} → target p x e.specifier ≡ None → StarNames p x es set so_far names after → StarNames p x (e ∷ es) set so_far names after
-    brought : {x y : ModuleId} {e : ReExportAll} {es : List ReExportAll} {set between after : List ModuleId} {so_far star-names names : List NameId} → target p x e.specifier ≡ Some y → GetExportedNames p set (stands p y) star-names between → StarNames p x es between (with_star_names so_far star-names) names after → StarNames p x (e ∷ es) set so_far names after
+    brought : {x y : ModuleId} {e : ReExportAll} {es : List ReExportAll} {set between after : List ModuleId} {so_far star_names names : List NameId} → target p x e.specifier ≡ Some y → GetExportedNames p set (stands p y) star_names between → StarNames p x es between (with_star_names so_far star_names) names after → StarNames p x (e ∷ es) set so_far names after
 
 -- GetExportedNames of a module, called with no export star set, ends, and has f exactly where b says so
 pub record Standard (p : Program) (x : ModuleId) (f : NameId) (b : Bool) : Type 0 where

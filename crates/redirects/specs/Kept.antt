@@ -28,8 +28,8 @@ module _ (n : ℕ) where
   next_below (r ∷ rs) m h = cond_both (r.from.0 == m.0) (Some r.to) (next rs m) (λ o. IfSome o Below) (λ _. h.0) (λ _. next_below rs m h.1)
 
   walk_below : (rs : List Redirect) → AllByRecursion (λ r. Below r.to) rs → (k : ℕ) (seen : List ModuleId) (m : ModuleId) → Below m → Below (walk rs k seen m)
-  walk_below rs all-below zero seen m h = h
-  walk_below rs all-below (suc k) seen m h = subst Below (sym (walk_more rs seen m k)) (onward_below (next rs m) (next_below rs m all-below) (λ t. walk_below rs all-below k (seen ++ t ∷ []) t))
+  walk_below rs all_below zero seen m h = h
+  walk_below rs all_below (suc k) seen m h = subst Below (sym (walk_more rs seen m k)) (onward_below (next rs m) (next_below rs m all_below) (λ t. walk_below rs all_below k (seen ++ t ∷ []) t))
     where
       onward_below : (o : Option ModuleId) → IfSome o Below → ((t : ModuleId) → Below t → Below (walk rs k (seen ++ t ∷ []) t)) → Below (onward rs seen m k o)
       onward_below None to on = h

@@ -35,7 +35,7 @@ module _ (t : Trace) where
   abbrev pub LeadsTo : ReExportAll → ModuleId → Type 0
   LeadsTo e y = targets.target t.program t.at e.specifier ≡ Some y
 
-  -- star, and full where with-default holds
+  -- star, and full where with_default holds
   pub data StarGives (with_default : Bool) : Outcome → Type 0 where
     star_export : {e : Export} {n : Namespace} → Among (module_exports t) e → (with_default ≡ false → e.name.0 ≢ 0) → Exported e.symbol n → StarGives with_default (reached (ask e.symbol targets.module_symbol n))
     star_range : {e : ReExportAll} → Among (module_alls t) e → StarGives with_default (found e.range)

@@ -11,7 +11,7 @@ returns-then-whole c =
     let m = c.args.«module» in
     let ps = paths_of m (vec_items t.rows) in
     let is = kept_record t m c.requires.paths in
-    let part : some_of_default ps ≡ true = sym (ap (λ rows. some_of_default (paths_of m rows)) c.deref.ensures.value) ∙ sym c.any.ensures ∙ c.if-not-any.false in
+    let part : some_of_default ps ≡ true = cc in
     let whole : some_covers ps default_names ≡ true = sym (ap (λ rows. some_covers (paths_of m rows) default_names) c.deref-2.ensures.value) ∙ sym (ap (some_covers (paths_of m c.deref-2.result.now)) c.single.ensures) ∙ sym c.any-whole.ensures ∙ c.if-whole.true in
     record {
       out = whole_default ps part whole ∙ ap (λ r. handed r Star) (sym is);
@@ -24,7 +24,7 @@ returns-else-whole c =
     let m = c.args.«module» in
     let ps = paths_of m (vec_items t.rows) in
     let is = kept_record t m c.requires.paths in
-    let part : some_of_default ps ≡ true = sym (ap (λ rows. some_of_default (paths_of m rows)) c.deref.ensures.value) ∙ sym c.any.ensures ∙ c.if-not-any.false in
+    let part : some_of_default ps ≡ true = cc in
     let whole : some_covers ps default_names ≡ false = sym (ap (λ rows. some_covers (paths_of m rows) default_names) c.deref-2.ensures.value) ∙ sym (ap (some_covers (paths_of m c.deref-2.result.now)) c.single.ensures) ∙ sym c.any-whole.ensures ∙ c.if-whole.false in
     record {
       out = part_default ps part whole ∙ ap (λ r. handed r Star) (sym is);

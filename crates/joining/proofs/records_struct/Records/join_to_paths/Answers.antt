@@ -7,14 +7,14 @@ use Rattle.joining.specs.declared.requests.Request.TheVariants.{Path as Ask}
 use Rattle.joining.proofs.TableFacts.{changes_to, no_change, kept_record, covered_path, uncovered_path}
 use Rattle.joining.proofs.records_struct.Records.join_to_paths.Goals as goal
 
-pub returns-then-any : goal.returns-then-any
-returns-then-any c =
+pub returns-then-covered : goal.returns-then-covered
+returns-then-covered c =
     let t = c.args.self.now in
     let m = c.args.«module» in
     let p = c.in-Path.path in
     let ps = paths_of m (vec_items t.rows) in
     let is = kept_record t m c.requires.paths in
-    let hit : some_covers ps (names_of p) ≡ true = sym (ap (λ rows. some_covers (paths_of m rows) (names_of p)) c.deref.ensures.value) ∙ sym c.any.ensures ∙ c.if-any.true in
+    let hit : some_covers ps (names_of p) ≡ true = cc in
     let both = covered_path ps p hit in
     let asked = sym c.in-Path.is in
     record {
@@ -22,14 +22,14 @@ returns-then-any c =
       changes = no_change t m _ (is ∙ both.1 ∙ ap (λ r. joined r (Ask p)) (sym is) ∙ ap (joined (record_of t m)) asked);
     }
 
-pub returns-else-any : goal.returns-else-any
-returns-else-any c =
+pub returns-else-covered : goal.returns-else-covered
+returns-else-covered c =
     let t = c.args.self.now in
     let m = c.args.«module» in
     let p = c.in-Path.path in
     let ps = paths_of m (vec_items t.rows) in
     let is = kept_record t m c.requires.paths in
-    let miss : some_covers ps (names_of p) ≡ false = sym (ap (λ rows. some_covers (paths_of m rows) (names_of p)) c.deref.ensures.value) ∙ sym c.any.ensures ∙ c.if-any.false in
+    let miss : some_covers ps (names_of p) ≡ false = cc in
     let asked = sym c.in-Path.is in
     record {
       out = uncovered_path ps p miss ∙ ap (λ r. handed r (Ask p)) (sym is) ∙ ap (handed (record_of t m)) asked;
