@@ -31,16 +31,16 @@ module rye.ts typed bakery -
     export Loaf 1
     member 1
     alias 31 40 Bread 1
-    qualified_alias 41 50 - - Loaf.crust
-    file_ref 51 60 Mill ./flour.js *
-    file_ref 61 70 Grain ./flour.js grain
+    qualified-alias 41 50 - - Loaf.crust
+    file-ref 51 60 Mill ./flour.js *
+    file-ref 61 70 Grain ./flour.js grain
   symbol 0
     definition 71 99 Loaf ExportClass export,class   # with its references
       id 0 both
       id - type
-      qualified_id 1 prototype.crust
-      import_type ./flour.js -
-      import_type ./flour.js grain.kind
+      qualified-id 1 prototype.crust
+      import-type ./flour.js -
+      import-type ./flour.js grain.kind
 module flour.d.ts external bakery -
 ";
 
@@ -138,7 +138,7 @@ module rye.ts typed bakery -
   symbol 0
     definition 10 80 Loaf ExportClass export,class
       id - value
-      import_type ./flour.ts grain.kind
+      import-type ./flour.ts grain.kind
 ";
 
     #[test]
