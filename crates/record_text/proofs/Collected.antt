@@ -1,11 +1,11 @@
 -- Lemmas on the names that are collected before the lines are read.
-use Rattle.std.proofs.Common.{◌≡◌, ◌<◌, ◌⊎◌, List, [], ◌∷◌, ◌++◌, length, Ok, Err, codes, Result, sym, refl, ap, ◌∙◌, subst, inl, inr, arith}
+use Rattle.std.proofs.Common.{◌≡◌, ◌<◌, List, [], ◌∷◌, ◌++◌, length, Ok, Err, codes, Result, sym, refl, ap, ◌∙◌, subst, inl, inr, arith}
 use Rattle.std.specs.Str.Lines.{IsFirstLine as FirstLine}
 use Rattle.std.proofs.lemmas.List.{nil_from_length}
 use Rattle.words.specs.Interned.{texts, firsts}
 use Rattle.words.specs.Lines.{Lines}
 use Rattle.words.specs.Texts.{Text}
-use Rattle.words.specs.Words.{Blank, Content, First}
+use Rattle.words.specs.Words.{Content, First}
 use Rattle.words.specs.declared.interner_struct.Names.{Names}
 use Rattle.words.proofs.Lined.{lines_push}
 use Rattle.record_text.specs.declared.faults.Fault.{Fault}

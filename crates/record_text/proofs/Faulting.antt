@@ -1,5 +1,5 @@
 -- Lemmas on the word that a fault names.
-use Rattle.std.proofs.Common.{◌≡◌, ℕ, ◌<◌, List, [], ◌∷◌, map, length, get_or, Err, string_bytes, sym, ap, ◌∙◌, subst, inl, inr, arith, Bor}
+use Rattle.std.proofs.Common.{◌≡◌, ℕ, ◌<◌, List, ◌∷◌, map, length, get_or, Err, string_bytes, sym, ap, subst, inl, inr, arith, Bor}
 use Rattle.std.specs.List.{ContainsAt as Has}
 use Rattle.std.proofs.lemmas.List.{length-map}
 use Rattle.words.specs.Texts.{Text}

@@ -1,5 +1,5 @@
 -- What a line says stays so while names are added.
-use Rattle.std.proofs.Common.{◌≡◌, true, false, List, Some, None, Option, sym, refl, ◌∙◌, subst}
+use Rattle.std.proofs.Common.{true, false, List, Some, None, Option, sym, ◌∙◌, subst}
 use Rattle.ids.specs.Paths.{names_of}
 use Rattle.ids.specs.declared.numbers.NameId.{NameId}
 use Rattle.ids.specs.declared.path_struct.Path.{Path}

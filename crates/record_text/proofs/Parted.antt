@@ -1,19 +1,16 @@
 -- The pieces of a word are one list and no other.
-use Rattle.std.proofs.Common.{◌≡◌, ℕ, suc, ◌<◌, ◌≤◌, List, [], ◌∷◌, ◌++◌, length, get_or, sym, refl, ap, ◌∙◌, subst, arith}
-use Rattle.std.specs.List.{join_with_byte, ContainsAt as Has, AllByRecursion as All}
+use Rattle.std.proofs.Common.{◌≡◌, ℕ, suc, ◌<◌, List, [], ◌∷◌, ◌++◌, length, sym, refl, ap, ◌∙◌, subst, arith}
+use Rattle.std.specs.List.{join_with_byte, AllByRecursion as All}
 use Rattle.std.specs.Str.Iter.{LacksByte}
 use Rattle.std.proofs.ByRecursion.{all-has}
 use Rattle.std.proofs.lemmas.List.{length-map, length-take}
-use Rattle.ids.specs.Names.{limit}
 use Rattle.ids.specs.Paths.{names_of}
 use Rattle.ids.specs.declared.numbers.NameId.{NameId}
-use Rattle.ids.specs.declared.path_struct.Path.{Path}
 use Rattle.words.specs.Paths.{Unspelled}
-use Rattle.words.specs.Spelled.{Pieces, texts_of, dot}
+use Rattle.words.specs.Spelled.{Pieces, dot}
 use Rattle.words.specs.Texts.{Text, text_at}
-use Rattle.words.specs.declared.spelling.PathFault.{PathFault}
-use Rattle.words.specs.declared.spelling.PathFault.TheVariants.{EmptyName, TooManyNames, TooManyDistinctNames, NoMemory}
-use Rattle.record_text.specs.Fields.{PathSaid, Pathless}
+use Rattle.words.specs.declared.spelling.PathFault.TheVariants.{EmptyName, TooManyNames}
+use Rattle.record_text.specs.Fields.{Pathless}
 
 lacks_tail : (c b : ℕ) (y : List ℕ) → LacksByte c (b ∷ y) → LacksByte c y
 lacks_tail c b y lack = λ k h e. lack (suc k) (omega arith) e

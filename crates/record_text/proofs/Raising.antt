@@ -1,5 +1,5 @@
 -- Lemmas on flags that are raised one after another.
-use Rattle.std.proofs.Common.{◌≡◌, ℕ, ◌+◌, ◌<◌, List, [], ◌∷◌, ◌++◌, map, length, get_or, take, sym, refl, ap, ◌∙◌, subst, Bor}
+use Rattle.std.proofs.Common.{◌≡◌, ℕ, ◌+◌, ◌<◌, List, [], ◌∷◌, ◌++◌, map, length, get_or, take, sym, refl, ap, ◌∙◌, Bor}
 use Rattle.std.proofs.lemmas.List.{map_push, map_more}
 use Rattle.host.specs.declared.told.SymbolDeclFlags.{SymbolDeclFlags}
 use Rattle.words.specs.Texts.{Text}

@@ -1,8 +1,7 @@
 -- Lemmas on what the lines of a text say.
-use Rattle.std.proofs.Common.{◌≡◌, ℕ, ◌+◌, ◌<◌, ◌≤◌, List, [], ◌∷◌, ◌++◌, map, length, Some, None, Ok, Err, string_bytes, Option, Result, sym, refl, ap, ◌∙◌, subst, arith, Bor}
+use Rattle.std.proofs.Common.{◌≡◌, ℕ, ◌+◌, ◌<◌, ◌≤◌, List, [], ◌∷◌, ◌++◌, map, length, Some, Ok, Err, Option, Result, sym, refl, ap, ◌∙◌, subst, arith, Bor}
 use Rattle.std.specs.Str.Lines.{IsFirstLine as FirstLine}
 use Rattle.std.proofs.lemmas.List.{append_assoc, append-nil, length_push, nil_from_length}
-use Rattle.table_rules.specs.Meaning.{program_of}
 use Rattle.words.specs.Interned.{texts, firsts}
 use Rattle.words.specs.Lines.{Lines}
 use Rattle.words.specs.Spelled.{Extends}
@@ -18,8 +17,8 @@ use Rattle.record_text.specs.declared.listing.Reader.{Reader}
 use Rattle.record_text.specs.Collecting.{Tabled}
 use Rattle.record_text.specs.Forms.{Shelf, shelf, Said, Grew}
 use Rattle.record_text.specs.Placing.{Sketch, sketch, blank, placed}
-use Rattle.record_text.specs.Reading.{after, all_placed, WordsSay, LineSays, LinesSay, Added, WordsRead, LineRead, Listed, Records, Stopped, Read, listing_shelf, with_names}
-use Rattle.record_text.proofs.Growing.{grew_on, said_kept}
+use Rattle.record_text.specs.Reading.{after, all_placed, WordsSay, LineSays, LinesSay, Added, WordsRead, LineRead, Listed, Records, Read}
+use Rattle.record_text.proofs.Growing.{said_kept}
 
 -- a line of no words adds nothing
 pub nothing_added : (r : Reader) (ws : List (Bor Text)) → length ws ≡ 0 → Added r r (map (λ x. x.now) ws)

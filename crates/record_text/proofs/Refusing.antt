@@ -1,5 +1,5 @@
 -- Lemmas on words that are refused.
-use Rattle.std.proofs.Common.{◌≡◌, ℕ, ◌<◌, List, [], ◌∷◌, map, length, get_or, Some, None, Ok, Err, Option, Result, sym, refl, subst, inl, inr, ⊎_elim, arith, Bor}
+use Rattle.std.proofs.Common.{◌≡◌, ℕ, ◌<◌, List, [], ◌∷◌, map, length, get_or, Some, None, Ok, Err, Result, sym, refl, subst, inr, ⊎_elim, arith, Bor}
 use Rattle.std.specs.List.{ContainsAt as Has, AllByRecursion as All}
 use Rattle.std.proofs.ByRecursion.{all-has}
 use Rattle.host.specs.declared.told.SymbolDeclFlags.{SymbolDeclFlags}
@@ -12,7 +12,7 @@ use Rattle.words.proofs.Numbering.{has_piece}
 use Rattle.record_text.specs.declared.faults.Unread.{Unread}
 use Rattle.record_text.specs.declared.faults.Unread.TheVariants.{Of, NoMemory}
 use Rattle.record_text.specs.declared.flagging.Flag.{Flag}
-use Rattle.record_text.specs.Fields.{dash, PathSaid, OrNone, No, Refused, Read, RangeSaid, RangeRefused, PathUnread, Pathless}
+use Rattle.record_text.specs.Fields.{dash, PathSaid, OrNone, No, Refused, RangeSaid, RangeRefused, PathUnread, Pathless}
 use Rattle.record_text.specs.Flags.{unflagged, flag_word, Flagless, Raises, FlagsSaid, RaisedRead, FlagsRead}
 use Rattle.record_text.specs.Forms.{Shelf, Unsaid, Faulted}
 use Rattle.record_text.proofs.Parted.{pieces_one, empty_name, too_many_names}

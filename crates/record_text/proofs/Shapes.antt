@@ -1,5 +1,5 @@
 -- The form of a line is known by its keyword, and each form by its words.
-use Rattle.std.proofs.Common.{◌≡◌, ℕ, ◌<◌, ◌≤◌, true, false, cond, eqb, ◌⊎◌, List, [], ◌∷◌, length, get_or, codes, Option, sym, refl, subst, inl, inr, ⊎_elim, arith}
+use Rattle.std.proofs.Common.{◌≡◌, ℕ, ◌≤◌, true, false, cond, eqb, ◌⊎◌, List, [], ◌∷◌, length, get_or, codes, Option, sym, refl, subst, inl, inr, ⊎_elim, arith}
 use Rattle.std.specs.List.{ContainsAt as Has, AllByRecursion as All}
 use Rattle.std.specs.Str.{bytes_eq}
 use Rattle.std.proofs.ByRecursion.{all-has}
@@ -48,7 +48,7 @@ pub data Form : Type 0 where
   other : Form
 
 abbrev pub keyword_form : Text → Form
-keyword_form k = cond (bytes_eq k (codes "package")) a_package (cond (bytes_eq k (codes "entry")) a_entry (cond (bytes_eq k (codes "module")) a_module (cond (bytes_eq k (codes "dependency")) a_dependency (cond (bytes_eq k (codes "export-all")) a_export_all (cond (bytes_eq k (codes "symbol")) a_symbol (cond (bytes_eq k (codes "export")) a_export (cond (bytes_eq k (codes "member")) a_member (cond (bytes_eq k (codes "alias")) a_alias (cond (bytes_eq k (codes "qualified_alias")) a_qualified_alias (cond (bytes_eq k (codes "file_ref")) a_file_ref (cond (bytes_eq k (codes "definition")) a_definition (cond (bytes_eq k (codes "id")) a_id (cond (bytes_eq k (codes "qualified_id")) a_qualified_id (cond (bytes_eq k (codes "import_type")) a_import_type (other)))))))))))))))
+keyword_form k = cond (bytes_eq k (codes "package")) a_package (cond (bytes_eq k (codes "entry")) a_entry (cond (bytes_eq k (codes "module")) a_module (cond (bytes_eq k (codes "dependency")) a_dependency (cond (bytes_eq k (codes "export-all")) a_export_all (cond (bytes_eq k (codes "symbol")) a_symbol (cond (bytes_eq k (codes "export")) a_export (cond (bytes_eq k (codes "member")) a_member (cond (bytes_eq k (codes "alias")) a_alias (cond (bytes_eq k (codes "qualified-alias")) a_qualified_alias (cond (bytes_eq k (codes "file-ref")) a_file_ref (cond (bytes_eq k (codes "definition")) a_definition (cond (bytes_eq k (codes "id")) a_id (cond (bytes_eq k (codes "qualified-id")) a_qualified_id (cond (bytes_eq k (codes "import-type")) a_import_type (other)))))))))))))))
 
 abbrev pub form : List Text → Form
 form [] = other
@@ -112,12 +112,12 @@ form_word a_symbol = codes "symbol"
 form_word a_export = codes "export"
 form_word a_member = codes "member"
 form_word a_alias = codes "alias"
-form_word a_qualified_alias = codes "qualified_alias"
-form_word a_file_ref = codes "file_ref"
+form_word a_qualified_alias = codes "qualified-alias"
+form_word a_file_ref = codes "file-ref"
 form_word a_definition = codes "definition"
 form_word a_id = codes "id"
-form_word a_qualified_id = codes "qualified_id"
-form_word a_import_type = codes "import_type"
+form_word a_qualified_id = codes "qualified-id"
+form_word a_import_type = codes "import-type"
 form_word other = []
 
 abbrev pub Fits : Form → ℕ → Type 0
@@ -167,7 +167,7 @@ shape t (Part (Inner (Refers r))) ws said = reference_shape t r ws said
 
 -- the keywords of the lines of so many words
 abbrev pub keywords : ℕ → List Text
-keywords n = cond (eqb n 2) (codes "package" ∷ codes "entry" ∷ codes "symbol" ∷ codes "member" ∷ []) (cond (eqb n 3) (codes "package" ∷ codes "dependency" ∷ codes "export" ∷ codes "id" ∷ codes "qualified_id" ∷ codes "import_type" ∷ []) (cond (eqb n 4) (codes "export-all" ∷ []) (cond (eqb n 5) (codes "module" ∷ codes "alias" ∷ []) (cond (eqb n 6) (codes "qualified_alias" ∷ codes "file_ref" ∷ codes "definition" ∷ []) ([])))))
+keywords n = cond (eqb n 2) (codes "package" ∷ codes "entry" ∷ codes "symbol" ∷ codes "member" ∷ []) (cond (eqb n 3) (codes "package" ∷ codes "dependency" ∷ codes "export" ∷ codes "id" ∷ codes "qualified-id" ∷ codes "import-type" ∷ []) (cond (eqb n 4) (codes "export-all" ∷ []) (cond (eqb n 5) (codes "module" ∷ codes "alias" ∷ []) (cond (eqb n 6) (codes "qualified-alias" ∷ codes "file-ref" ∷ codes "definition" ∷ []) ([])))))
 
 listed : (f : Form) (n : ℕ) → Fits f n → Has (keywords n) (form_word f)
 listed a_package n h = ⊎_elim (λ (e : n ≡ 2). subst (λ (m : ℕ). Has (keywords m) (codes "package")) (sym e) (0, omega arith, λ d. refl)) (λ (e : n ≡ 3). subst (λ (m : ℕ). Has (keywords m) (codes "package")) (sym e) (0, omega arith, λ d. refl)) h
@@ -179,12 +179,12 @@ listed a_symbol n e = subst (λ (m : ℕ). Has (keywords m) (codes "symbol")) (s
 listed a_export n e = subst (λ (m : ℕ). Has (keywords m) (codes "export")) (sym e) (2, omega arith, λ d. refl)
 listed a_member n e = subst (λ (m : ℕ). Has (keywords m) (codes "member")) (sym e) (3, omega arith, λ d. refl)
 listed a_alias n e = subst (λ (m : ℕ). Has (keywords m) (codes "alias")) (sym e) (1, omega arith, λ d. refl)
-listed a_qualified_alias n e = subst (λ (m : ℕ). Has (keywords m) (codes "qualified_alias")) (sym e) (0, omega arith, λ d. refl)
-listed a_file_ref n e = subst (λ (m : ℕ). Has (keywords m) (codes "file_ref")) (sym e) (1, omega arith, λ d. refl)
+listed a_qualified_alias n e = subst (λ (m : ℕ). Has (keywords m) (codes "qualified-alias")) (sym e) (0, omega arith, λ d. refl)
+listed a_file_ref n e = subst (λ (m : ℕ). Has (keywords m) (codes "file-ref")) (sym e) (1, omega arith, λ d. refl)
 listed a_definition n e = subst (λ (m : ℕ). Has (keywords m) (codes "definition")) (sym e) (2, omega arith, λ d. refl)
 listed a_id n e = subst (λ (m : ℕ). Has (keywords m) (codes "id")) (sym e) (3, omega arith, λ d. refl)
-listed a_qualified_id n e = subst (λ (m : ℕ). Has (keywords m) (codes "qualified_id")) (sym e) (4, omega arith, λ d. refl)
-listed a_import_type n e = subst (λ (m : ℕ). Has (keywords m) (codes "import_type")) (sym e) (5, omega arith, λ d. refl)
+listed a_qualified_id n e = subst (λ (m : ℕ). Has (keywords m) (codes "qualified-id")) (sym e) (4, omega arith, λ d. refl)
+listed a_import_type n e = subst (λ (m : ℕ). Has (keywords m) (codes "import-type")) (sym e) (5, omega arith, λ d. refl)
 listed other n h = absurd h
 
 -- a line whose keyword is none of those of so many words says nothing

@@ -1,5 +1,5 @@
 -- What a word says in a field of a record. Assumes nothing.
-use Rattle.std.specs.Prelude.{◌≡◌, ℕ, ◌<◌, List, [], Some, None, Ok, Err, codes, Option, Result, ◌≢◌}
+use Rattle.std.specs.Prelude.{◌≡◌, ℕ, ◌<◌, List, Some, None, Ok, Err, codes, Option, Result, ◌≢◌}
 use Rattle.std.specs.Str.Parse.{ParsesUnsigned}
 use Rattle.ids.specs.Paths.{names_of}
 use Rattle.ids.specs.declared.numbers.ModuleId.{ModuleId}

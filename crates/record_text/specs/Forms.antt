@@ -1,5 +1,5 @@
 -- How an item is written as the words of a line. Assumes nothing.
-use Rattle.std.specs.Prelude.{◌≡◌, ℕ, ◌<◌, Bool, true, false, List, [], ◌∷◌, length, Ok, Err, codes, Result}
+use Rattle.std.specs.Prelude.{◌≡◌, ◌<◌, true, false, List, [], ◌∷◌, length, Ok, Err, codes, Result}
 use Rattle.host.specs.declared.told.SymbolNodeDep.{SymbolNodeDep}
 use Rattle.host.specs.declared.told.SymbolNodeDep.TheVariants.{Id, QualifiedId, ImportType}
 use Rattle.words.specs.Interned.{texts}
@@ -39,16 +39,16 @@ abbrev pub DeclarationSaid : Shelf → DeclarationHead → DeclarationKind → L
 DeclarationSaid t h (Alias o) ws =
     (s : Text) × (e : Text) × (n : Text) × (x : Text) × (ws ≡ codes "alias" ∷ s ∷ e ∷ n ∷ x ∷ []) × HeadSaid t s e n h × OrNone SymbolSaid x o
 DeclarationSaid t h (QualifiedAlias o p) ws =
-    (s : Text) × (e : Text) × (n : Text) × (x : Text) × (y : Text) × (ws ≡ codes "qualified_alias" ∷ s ∷ e ∷ n ∷ x ∷ y ∷ []) × HeadSaid t s e n h × OrNone SymbolSaid x o × PathSaid t.names y p
+    (s : Text) × (e : Text) × (n : Text) × (x : Text) × (y : Text) × (ws ≡ codes "qualified-alias" ∷ s ∷ e ∷ n ∷ x ∷ y ∷ []) × HeadSaid t s e n h × OrNone SymbolSaid x o × PathSaid t.names y p
 DeclarationSaid t h (File f) ws =
-    (s : Text) × (e : Text) × (n : Text) × (x : Text) × (y : Text) × (ws ≡ codes "file_ref" ∷ s ∷ e ∷ n ∷ x ∷ y ∷ []) × HeadSaid t s e n h × NameSaid t.names x f.specifier × FileNameSaid t.names y f.name
+    (s : Text) × (e : Text) × (n : Text) × (x : Text) × (y : Text) × (ws ≡ codes "file-ref" ∷ s ∷ e ∷ n ∷ x ∷ y ∷ []) × HeadSaid t s e n h × NameSaid t.names x f.specifier × FileNameSaid t.names y f.name
 DeclarationSaid t h (Defines k fs) ws =
     (s : Text) × (e : Text) × (n : Text) × (x : Text) × (y : Text) × (ws ≡ codes "definition" ∷ s ∷ e ∷ n ∷ x ∷ y ∷ []) × HeadSaid t s e n h × (x ≡ node_word k) × FlagsSaid y fs
 
 abbrev pub ReferenceSaid : Shelf → SymbolNodeDep → List Text → Type 0
 ReferenceSaid t (Id o how) ws = (x : Text) × (y : Text) × (ws ≡ codes "id" ∷ x ∷ y ∷ []) × OrNone SymbolSaid x o × (y ≡ namespace_word how)
-ReferenceSaid t (QualifiedId o p) ws = (x : Text) × (y : Text) × (ws ≡ codes "qualified_id" ∷ x ∷ y ∷ []) × OrNone SymbolSaid x o × PathSaid t.names y p
-ReferenceSaid t (ImportType s p) ws = (x : Text) × (y : Text) × (ws ≡ codes "import_type" ∷ x ∷ y ∷ []) × NameSaid t.names x s × OrNone (PathSaid t.names) y p
+ReferenceSaid t (QualifiedId o p) ws = (x : Text) × (y : Text) × (ws ≡ codes "qualified-id" ∷ x ∷ y ∷ []) × OrNone SymbolSaid x o × PathSaid t.names y p
+ReferenceSaid t (ImportType s p) ws = (x : Text) × (y : Text) × (ws ≡ codes "import-type" ∷ x ∷ y ∷ []) × NameSaid t.names x s × OrNone (PathSaid t.names) y p
 
 abbrev pub SymbolPartSaid : Shelf → SymbolPart → List Text → Type 0
 SymbolPartSaid t (Exports e) ws = (x : Text) × (y : Text) × (ws ≡ codes "export" ∷ x ∷ y ∷ []) × NameSaid t.names x e.name × SymbolSaid y e.symbol

@@ -84,7 +84,7 @@ pub trait Case {
     fn sketch(&self) -> Sketch;
 }
 
-fn loads<C: Case>(heap: Global, case: &C) -> Result<bool, AllocError> {
+pub(crate) fn loads<C: Case>(heap: Global, case: &C) -> Result<bool, AllocError> {
     let table = program(heap, &case.sketch())?;
     Ok(Tables::load(table).is_ok())
 }

@@ -8,6 +8,7 @@ use host::{
 use ids::{NameId, PATH_LIMIT, Path};
 use std::alloc::Global;
 use std::process::Abort;
+use std::test::Fail;
 
 #[derive(Clone, Copy)]
 enum Change {
@@ -124,25 +125,32 @@ fn flag(i: usize) -> SymbolDeclFlags {
     }
 }
 
-fn flags_stand(rt: &impl Abort, heap: Global, flags: SymbolDeclFlags) -> Result<(), Fail> {
+fn flags_stand(rt: &impl Abort, heap: Global, i: usize) -> Result<(), Fail> {
+    let flags = flag(i);
     let path = Path::single(LAST_NAME);
     let definition = SymbolDeclKind::Definition(NodeKind::Var, 0);
-    loaded(rt, heap, &[Change::Kind(definition, flags)])?;
-    refused(
-        rt,
-        heap,
-        &[
-            Change::Kind(SymbolDeclKind::Target(None), flags),
-            Change::Kind(SymbolDeclKind::QualifiedTarget(None, path), flags),
-            Change::Kind(file(FileDepName::Star, LAST_NAME), flags),
-        ],
-    )
+    let cases = [
+        Change::Kind(SymbolDeclKind::Target(None), flags),
+        Change::Kind(SymbolDeclKind::QualifiedTarget(None, path), flags),
+        Change::Kind(file(FileDepName::Star, LAST_NAME), flags),
+    ];
+    assert!(rt;
+        loads(heap, &Change::Kind(definition, flags))?,
+        "flag {i} on a definition"
+    );
+    for (k, case) in cases.iter().enumerate() {
+        assert!(rt;
+            !loads(heap, case)?,
+            "flag {i}: case {k} of those that are refused"
+        );
+    }
+    Ok(())
 }
 
 #[test]
 fn each_flag_stands_on_definitions_alone(rt: HostRuntime) -> Result<(), Fail> {
     for i in 0..8usize {
-        flags_stand(&rt, rt.alloc(), flag(i)).note(format_args!("flag {i}"))?;
+        flags_stand(&rt, rt.alloc(), i)?;
     }
     Ok(())
 }

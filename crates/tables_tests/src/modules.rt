@@ -3,6 +3,7 @@ use crate::building::*;
 use crate::cases::*;
 use host::{Dependency, ModuleInfo, ModuleKind, ReExportAll, SourceRange};
 use ids::{ModuleId, NameId, PackageId};
+use std::test::Fail;
 
 #[derive(Clone, Copy)]
 enum Change {

@@ -2,6 +2,7 @@
 use crate::building::*;
 use crate::cases::*;
 use ids::ModuleId;
+use std::test::Fail;
 
 #[derive(Clone, Copy)]
 enum Change {

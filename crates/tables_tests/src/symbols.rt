@@ -3,6 +3,7 @@ use crate::building::*;
 use crate::cases::*;
 use host::Export;
 use ids::{NameId, SymbolId};
+use std::test::Fail;
 
 #[derive(Clone, Copy)]
 enum Change {

@@ -4,6 +4,7 @@ use crate::cases::*;
 use host::Host;
 use ids::SymbolId;
 use std::alloc::Global;
+use std::test::Fail;
 use tables::{Refusal, Tables};
 
 fn tables_of(heap: Global, s: &Sketch) -> Result<Tables, Fail> {

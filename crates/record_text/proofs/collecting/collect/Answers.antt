@@ -1,5 +1,4 @@
 use Rattle.std.proofs.Common.{ap, ◌∙◌}
-use Rattle.std.proofs.lemmas.Result.{err_from_is_err_and}
 use Rattle.std.specs.Str.Iter.{lines_rest}
 use Rattle.record_text.proofs.Collected.{none_yet, one_more, all_seen}
 use Rattle.record_text.proofs.collecting.collect.Goals as goal
@@ -7,7 +6,7 @@ use Rattle.record_text.proofs.collecting.collect.Goals as goal
 pub loop-line-init : goal.loop-line-init
 loop-line-init c =
     let start = c.in_ok-texts.ensures in
-    none_yet _ _ _ (ap lines_rest c.into_iter-line-iterator.ensures.into_iter-gives ∙ c.lines-line-items.ensures.rest) start.0 start.1 start.2
+    none_yet _ _ _ (ap lines_rest c.into_iter-line-iterator.ensures.into_iter_gives ∙ c.lines-line-items.ensures.rest) start.0 start.1 start.2
 
 pub loop-line-preserved : goal.loop-line-preserved
 loop-line-preserved c =

@@ -10,7 +10,7 @@ use Rattle.std.proofs.Common.{[], ◌∷◌, codes, refl, arith}
 pub returns-in_err-path : goal.returns-in_err-path
 returns-in_err-path c =
     let p = err_from_is_err_and c.from_residual-in_err-path.result c.from_residual-in_err-path.ensures.1 in
-    rw (p.1, p.2) (blame (shelf c.args.texts.now) (codes "import_type" ∷ c.args.specifier.now ∷ c.args.below.now ∷ []) _ 2 c.in_err-path.field-0.0 (omega arith) (λ nay names i said. let h = at_form _ i (codes "import_type" ∷ c.args.specifier.now ∷ c.args.below.now ∷ []) said in not_path_or_none names _ nay h.0 h.2) c.in_err-path.ensures)
+    rw (p.1, p.2) (blame (shelf c.args.texts.now) (codes "import-type" ∷ c.args.specifier.now ∷ c.args.below.now ∷ []) _ 2 c.in_err-path.field-0.0 (omega arith) (λ nay names i said. let h = at_form _ i (codes "import-type" ∷ c.args.specifier.now ∷ c.args.below.now ∷ []) said in not_path_or_none names _ nay h.0 h.2) c.in_err-path.ensures)
 
 pub returns : goal.returns
 returns c =

@@ -1,4 +1,4 @@
-use Rattle.std.proofs.Common.{◌≡◌, ℕ, [], ◌∷◌, map, length, arith, Bor, ltb-false, ltb-true}
+use Rattle.std.proofs.Common.{◌≡◌, [], ◌∷◌, map, length, arith, Bor, ltb-false, ltb-true}
 use Rattle.words.specs.Texts.{Text}
 use Rattle.std.proofs.lemmas.List.{length-map}
 use Rattle.record_text.specs.Forms.{shelf}

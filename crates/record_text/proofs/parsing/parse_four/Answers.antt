@@ -5,8 +5,8 @@ use Rattle.record_text.proofs.Refusing.{blame}
 use Rattle.record_text.proofs.Shapes.{no_keyword}
 use Rattle.record_text.proofs.parsing.parse_four.Goals as goal
 
-pub returns-in_module : goal.returns-in_module
-returns-in_module c = keyed c.args.texts.now c.module_line.new.texts _ _ _ c.module_line.result c.in_module.is c.module_line.ensures
+pub returns-in-module : goal.returns-in-module
+returns-in-module c = keyed c.args.texts.now c.module_line.new.texts _ _ _ c.module_line.result c.in-module.is c.module_line.ensures
 
 pub returns-in-alias : goal.returns-in-alias
 returns-in-alias c = keyed c.args.texts.now c.alias.new.texts _ _ _ c.alias.result c.in-alias.is c.alias.ensures

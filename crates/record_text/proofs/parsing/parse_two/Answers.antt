@@ -5,8 +5,8 @@ use Rattle.record_text.proofs.Refusing.{blame}
 use Rattle.record_text.proofs.Shapes.{no_keyword}
 use Rattle.record_text.proofs.parsing.parse_two.Goals as goal
 
-pub returns-in_package : goal.returns-in_package
-returns-in_package c = keyed c.args.texts.now c.package_exports.new.texts _ _ _ c.package_exports.result c.in_package.is c.package_exports.ensures
+pub returns-in-package : goal.returns-in-package
+returns-in-package c = keyed c.args.texts.now c.package_exports.new.texts _ _ _ c.package_exports.result c.in-package.is c.package_exports.ensures
 
 pub returns-in-dependency : goal.returns-in-dependency
 returns-in-dependency c = keyed c.args.texts.now c.dependency.new.texts _ _ _ c.dependency.result c.in-dependency.is c.dependency.ensures
@@ -24,4 +24,4 @@ pub returns-in-text-2 : goal.returns-in-text-2
 returns-in-text-2 c = keyed c.args.texts.now c.import_type.new.texts _ _ _ c.import_type.result c.in-text-2.is c.import_type.ensures
 
 pub returns-in_default : goal.returns-in_default
-returns-in_default c = blame (shelf c.args.texts.now) (c.args.keyword.now ∷ c.args.a.now ∷ c.args.b.now ∷ []) _ 0 c.misfit.result (omega arith) (λ _. no_keyword (shelf c.args.texts.now) c.args.keyword.now (c.args.a.now ∷ c.args.b.now ∷ []) (c.in_default.not_package, (c.in_default.not-dependency, (c.in_default.not-export, (c.in_default.not-id, (c.in_default.not-text, (c.in_default.not-text-2, tt))))))) c.misfit.ensures
+returns-in_default c = blame (shelf c.args.texts.now) (c.args.keyword.now ∷ c.args.a.now ∷ c.args.b.now ∷ []) _ 0 c.misfit.result (omega arith) (λ _. no_keyword (shelf c.args.texts.now) c.args.keyword.now (c.args.a.now ∷ c.args.b.now ∷ []) (c.in_default.not-package, (c.in_default.not-dependency, (c.in_default.not-export, (c.in_default.not-id, (c.in_default.not-text, (c.in_default.not-text-2, tt))))))) c.misfit.ensures

@@ -1,4 +1,4 @@
-use Rattle.std.proofs.Common.{◌≡◌, Some, sym, ap, ◌∙◌}
+use Rattle.std.proofs.Common.{Some, sym, ap, ◌∙◌}
 use Rattle.table_rules.specs.Meaning.{package_of, program_of}
 use Rattle.record_text.specs.Placing.{with_packages}
 use Rattle.record_text.proofs.Lasts.{pushed_of, next_number, other_number}

@@ -7,10 +7,10 @@ use Rattle.record_text.proofs.reading.read.Goals as goal
 pub loop-line-init : goal.loop-line-init
 loop-line-init c =
     let start = c.in_ok-reader.ensures in
-    begins _ _ c.in_ok-reader.reader (ap lines_rest c.into_iter-line-iterator.ensures.into_iter-gives ∙ c.lines-line-items.ensures.rest) start.0 start.1 start.2
+    begins _ _ c.in_ok-reader.reader (ap lines_rest c.into_iter-line-iterator.ensures.into_iter_gives ∙ c.lines-line-items.ensures.rest) start.0 start.1 start.2
 
 pub overflow_add-number : goal.overflow_add-number
-overflow_add-number c = omega (arith, c.loop-line.invariant.room, c.in-Some.ensures.steps.0.0, c.well-formed)
+overflow_add-number c = omega (arith, c.loop-line.invariant.room, c.in-Some.ensures.steps.0.0, c.well_formed)
 
 pub loop-line-preserved : goal.loop-line-preserved
 loop-line-preserved c =
