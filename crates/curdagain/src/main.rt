@@ -9,6 +9,7 @@ use failures::Failure;
 use offers::explain;
 use reports::report;
 use std::alloc::Global;
+use std::process::ExitCode;
 use std::{env, io};
 
 const HELP: &str = "\
@@ -97,10 +98,12 @@ fn run(rt: &HostRuntime) -> Result<(), Failure> {
     }
 }
 
-fn main(rt: HostRuntime) -> Result<(), Failure> {
-    let result = run(&rt);
-    if let Err(failure) = &result {
-        let _ = eprintln!(rt; "curdagain: {failure}");
+fn main(rt: HostRuntime) -> ExitCode {
+    match run(&rt) {
+        Ok(()) => ExitCode::SUCCESS,
+        Err(failure) => {
+            let _ = eprintln!(rt; "curdagain: {failure}");
+            ExitCode::FAILURE
+        }
     }
-    result
 }

@@ -30,7 +30,7 @@ module _ (p : Program) where
     returned_stars : (f : NameId) {x : ModuleId} {es : List ReExportAll} {set : List ModuleId} {so_far names : List NameId} {after : List ModuleId} → StarNames p x es set so_far names after → Among x es → (has_name so_far f ≡ true → Offers p f x) → has_name names f ≡ true → Offers p f x
     returned_stars f over among before h = before h
     returned_stars f (lost nowhere stars) among before h = returned_stars f stars (λ k e there. among (suc k) e there) before h
-    returned_stars f (brought {x = x} {y = y} {e = e} {so_far = so_far} {star-names = ns} leads call stars) among before h =
+    returned_stars f (brought {x = x} {y = y} {e = e} {so_far = so_far} {star_names = ns} leads call stars) among before h =
         returned_stars f stars (λ k e' there. among (suc k) e' there) (λ new. by_case (returned f call) (stars_from so_far ns f new)) h
       where
         by_case : (has_name ns f ≡ true → Offers p f (stands p y)) → (has_name so_far f ≡ true) ⊎ ((has_name ns f ≡ true) × (f.0 ≡ 0 → ⊥)) → Offers p f x
@@ -131,7 +131,7 @@ module _ (p : Program) where
       led = λ k e y there leads. absurd (true≢false (ap is_some (sym there)));
     }
     starred (lost {x = x} {e = e} {es = es} {set = set} {so_far = so_far} {names = names} {after = after} nowhere stars) = starred_lost x e es set so_far names after nowhere (starred stars)
-    starred (brought {x = x} {y = y} {e = e} {es = es} {set = set} {between = between} {after = after} {so_far = so_far} {star-names = ns} {names = names} leads call stars) = starred_brought x y e es set between after so_far ns names leads (called call) (starred stars)
+    starred (brought {x = x} {y = y} {e = e} {es = es} {set = set} {between = between} {after = after} {so_far = so_far} {star_names = ns} {names = names} leads call stars) = starred_brought x y e es set between after so_far ns names leads (called call) (starred stars)
 
   -- what is offered is returned
 
