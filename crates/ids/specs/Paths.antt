@@ -1,10 +1,11 @@
 -- A path by the list of its names. Assumes nothing.
-use Rattle.std.specs.Prelude.{◌≡◌, ◌-◌, ◌<◌, Bool, List, ◌∷◌, length, take, replicate, Ok, Err, Option, Result, refl, ◌==◌}
+use Rattle.std.specs.Prelude.{◌≡◌, ◌-◌, ◌<◌, Bool, List, [], ◌∷◌, length, take, replicate, Ok, Err, Option, Result, MatchOption, refl, ◌==◌}
 use Rattle.std.specs.declared.cmp.Ordering.{Ordering}
+use Rattle.std.specs.declared.cmp.Ordering.TheVariants.{Less, Equal, Greater}
 use Rattle.std.proofs.Common.{lit≤}
 use Rattle.std.specs.Cmp.{unsigned_ties}
 use Rattle.std.specs.Cmp.Lexicographic.{pointwise, slice_cmp, lists_ties}
-use Rattle.std.specs.Ordering.{nat_cmp, on, as_partial_cmp, eq_by_cmp}
+use Rattle.std.specs.Ordering.{MatchOrdering, nat_cmp, on, as_partial_cmp, eq_by_cmp}
 use Rattle.ids.specs.Names.{limit, default_name}
 use Rattle.ids.specs.declared.numbers.NameId.{NameId}
 use Rattle.ids.specs.declared.path_struct.Path.{Path}
@@ -27,19 +28,36 @@ abbrev pub same_names : Path → Path → Bool
 same_names = on names_of (pointwise (on (λ (n : NameId). n.0) ◌==◌))
 
 -- two names by their numbers
-abbrev pub by_number : NameId → NameId → Ordering
-by_number = on (λ (n : NameId). n.0) nat_cmp
+abbrev pub ByNumber : NameId → NameId → Ordering → Type 0
+ByNumber a b r = MatchOrdering r (a.0 < b.0) (a.0 ≡ b.0) (b.0 < a.0)
+
+-- two lists of names by R: the first pair that is not equal decides, and a list comes before those that go on from it
+abbrev pub Lex : (NameId → NameId → Ordering → Type 0) → List NameId → List NameId → Ordering → Type 0
+Lex R [] [] r = r ≡ Equal
+Lex R [] (n ∷ ns) r = r ≡ Less
+Lex R (m ∷ ms) [] r = r ≡ Greater
+Lex R (m ∷ ms) (n ∷ ns) r = (s : Ordering) × (R m n s × MatchOrdering s (r ≡ Less) (Lex R ms ns r) (r ≡ Greater))
 
 -- two paths name by name: the first difference decides, and a path comes before those that go on from it
-abbrev pub in_order : Path → Path → Ordering
-in_order = on names_of (slice_cmp by_number)
+abbrev pub InOrder : Path → Path → Ordering → Type 0
+InOrder p q = Lex ByNumber (names_of p) (names_of q)
 
-abbrev pub in_some_order : Path → Path → Option Ordering
-in_some_order = as_partial_cmp in_order
+abbrev pub InSomeOrder : Path → Path → Option Ordering → Type 0
+InSomeOrder p q r = MatchOption r ⊥ (InOrder p q)
+
+-- the same as functions
+abbrev pub number_order : NameId → NameId → Ordering
+number_order = on (λ (n : NameId). n.0) nat_cmp
+
+abbrev pub path_order : Path → Path → Ordering
+path_order = on names_of (slice_cmp number_order)
+
+abbrev pub path_partial_order : Path → Path → Option Ordering
+path_partial_order = as_partial_cmp path_order
 
 -- paths have the same names exactly where neither comes first
-pub names_tie : (p q : Path) → same_names p q ≡ eq_by_cmp in_order p q
-names_tie p q = lists_ties by_number (λ m n. unsigned_ties m.0 n.0) (names_of p) (names_of q)
+pub names_tie : (p q : Path) → same_names p q ≡ eq_by_cmp path_order p q
+names_tie p q = lists_ties number_order (λ m n. unsigned_ties m.0 n.0) (names_of p) (names_of q)
 
 -- the path of one name
 abbrev pub one_name : NameId → Path

@@ -1,7 +1,7 @@
 // Paths: made from names, put one after another, compared name by name.
 ghost use Rattle.std.specs.Prelude.{◌≡◌, ◌+◌, ◌<◌, [], ◌∷◌, ◌++◌, Decides};
 ghost use Rattle.ids.specs.Names.{limit};
-ghost use Rattle.ids.specs.Paths.{names_of, same_names, in_order, in_some_order, names_tie, Makes};
+ghost use Rattle.ids.specs.Paths.{names_of, Makes, same_names, InOrder, InSomeOrder, path_order, path_partial_order, names_tie};
 ghost use Rattle.std.specs.Cmp.{partial_order_from_own_ties};
 ghost use Rattle.std.specs.Cmp.Rules.{comparing};
 ghost use Rattle.std.proofs.Common.{rules};
@@ -106,17 +106,20 @@ impl Eq for Path {
 
 // By the number of the first name in which two paths differ; a path stands before those that go on from it.
 impl PartialOrd for Path {
-    ghost partial_cmp = { in_some_order };
+    ghost partial_cmp = { path_partial_order };
 
     ghost laws = { partial_order_from_own_ties (Prim.search (comparing, rules)) names_tie };
 
-    fn partial_cmp(&self, other: &Path) -> Option<Ordering> {
+    fn partial_cmp(&self, other: &Path) -> Option<Ordering>
+        ensures computes { result ≡ path_partial_order self.now other.now }
+        ensures order { InSomeOrder self.now other.now result }
+    {
         Some(self.cmp(other))
     }
 }
 
 impl Ord for Path {
-    ghost cmp = { in_order };
+    ghost cmp = { path_order };
 
     ghost total = { Prim.search (comparing, rules) };
 
@@ -124,7 +127,10 @@ impl Ord for Path {
 
     ghost matches_eq = { names_tie };
 
-    fn cmp(&self, other: &Path) -> Ordering {
+    fn cmp(&self, other: &Path) -> Ordering
+        ensures computes { result ≡ path_order self.now other.now }
+        ensures order { InOrder self.now other.now result }
+    {
         self.names().cmp(&other.names())
     }
 }
