@@ -6,7 +6,6 @@ use host::{
 };
 use ids::{ModuleId, NameId, PackageId, SymbolId};
 use std::alloc::{AllocError, Global};
-use std::process::Abort;
 use std::test::Fail;
 use tables::Tables;
 
@@ -90,17 +89,21 @@ pub(crate) fn loads<C: Case>(heap: Global, case: &C) -> Result<bool, AllocError>
 }
 
 // Each of the cases keeps the rules.
-pub(crate) fn loaded<C: Case>(rt: &impl Abort, heap: Global, cases: &[C]) -> Result<(), Fail> {
+pub(crate) fn loaded<C: Case>(heap: Global, cases: &[C]) -> Result<(), Fail> {
     for (i, case) in cases.iter().enumerate() {
-        assert!(rt; loads(heap, case)?, "case {i} of those that are loaded");
+        if !loads(heap, case)? {
+            return Err(Fail::new(format_args!("case {i} of those that are loaded")));
+        }
     }
     Ok(())
 }
 
 // Each of the cases breaks a rule.
-pub(crate) fn refused<C: Case>(rt: &impl Abort, heap: Global, cases: &[C]) -> Result<(), Fail> {
+pub(crate) fn refused<C: Case>(heap: Global, cases: &[C]) -> Result<(), Fail> {
     for (i, case) in cases.iter().enumerate() {
-        assert!(rt; !loads(heap, case)?, "case {i} of those that are refused");
+        if loads(heap, case)? {
+            return Err(Fail::new(format_args!("case {i} of those that are refused")));
+        }
     }
     Ok(())
 }

@@ -7,7 +7,6 @@ use host::{
 };
 use ids::{NameId, PATH_LIMIT, Path};
 use std::alloc::Global;
-use std::process::Abort;
 use std::test::Fail;
 
 #[derive(Clone, Copy)]
@@ -51,7 +50,6 @@ fn file(name: FileDepName, specifier: NameId) -> SymbolDeclKind {
 #[test]
 fn ranges_and_names(rt: HostRuntime) -> Result<(), Fail> {
     loaded(
-        &rt,
         rt.alloc(),
         &[
             Change::Range(WHOLE),
@@ -60,7 +58,6 @@ fn ranges_and_names(rt: HostRuntime) -> Result<(), Fail> {
         ],
     )?;
     refused(
-        &rt,
         rt.alloc(),
         &[Change::Range(BACKWARD), Change::Name(Some(NO_NAME))],
     )
@@ -71,7 +68,6 @@ fn targets(rt: HostRuntime) -> Result<(), Fail> {
     let unknown = Path::from_names(&[LAST_NAME, NO_NAME])?;
     let known = Path::from_names(&[LAST_NAME; PATH_LIMIT])?;
     loaded(
-        &rt,
         rt.alloc(),
         &[
             kind(SymbolDeclKind::Target(None)),
@@ -81,7 +77,6 @@ fn targets(rt: HostRuntime) -> Result<(), Fail> {
         ],
     )?;
     refused(
-        &rt,
         rt.alloc(),
         &[
             kind(SymbolDeclKind::Target(Some(NO_SYMBOL))),
@@ -94,7 +89,6 @@ fn targets(rt: HostRuntime) -> Result<(), Fail> {
 #[test]
 fn files(rt: HostRuntime) -> Result<(), Fail> {
     loaded(
-        &rt,
         rt.alloc(),
         &[
             kind(file(FileDepName::Star, LAST_NAME)),
@@ -102,7 +96,6 @@ fn files(rt: HostRuntime) -> Result<(), Fail> {
         ],
     )?;
     refused(
-        &rt,
         rt.alloc(),
         &[
             kind(file(FileDepName::Star, NO_NAME)),
@@ -125,7 +118,7 @@ fn flag(i: usize) -> SymbolDeclFlags {
     }
 }
 
-fn flags_stand(rt: &impl Abort, heap: Global, i: usize) -> Result<(), Fail> {
+fn flags_stand(heap: Global, i: usize) -> Result<(), Fail> {
     let flags = flag(i);
     let path = Path::single(LAST_NAME);
     let definition = SymbolDeclKind::Definition(NodeKind::Var, 0);
@@ -134,15 +127,13 @@ fn flags_stand(rt: &impl Abort, heap: Global, i: usize) -> Result<(), Fail> {
         Change::Kind(SymbolDeclKind::QualifiedTarget(None, path), flags),
         Change::Kind(file(FileDepName::Star, LAST_NAME), flags),
     ];
-    assert!(rt;
-        loads(heap, &Change::Kind(definition, flags))?,
-        "flag {i} on a definition"
-    );
+    if !loads(heap, &Change::Kind(definition, flags))? {
+        return Err(Fail::new(format_args!("flag {i} on a definition")));
+    }
     for (k, case) in cases.iter().enumerate() {
-        assert!(rt;
-            !loads(heap, case)?,
-            "flag {i}: case {k} of those that are refused"
-        );
+        if loads(heap, case)? {
+            return Err(Fail::new(format_args!("flag {i}: case {k} of those that are refused")));
+        }
     }
     Ok(())
 }
@@ -150,15 +141,15 @@ fn flags_stand(rt: &impl Abort, heap: Global, i: usize) -> Result<(), Fail> {
 #[test]
 fn each_flag_stands_on_definitions_alone(rt: HostRuntime) -> Result<(), Fail> {
     for i in 0..8usize {
-        flags_stand(&rt, rt.alloc(), i)?;
+        flags_stand(rt.alloc(), i)?;
     }
     Ok(())
 }
 
 #[test]
 fn references_are_not_too_many(rt: HostRuntime) -> Result<(), Fail> {
-    loaded(&rt, rt.alloc(), &[Change::Deps(0), Change::Deps(4096)])?;
-    refused(&rt, rt.alloc(), &[Change::Deps(4097)])
+    loaded(rt.alloc(), &[Change::Deps(0), Change::Deps(4096)])?;
+    refused(rt.alloc(), &[Change::Deps(4097)])
 }
 
 #[test]
@@ -167,7 +158,6 @@ fn references_to_symbols(rt: HostRuntime) -> Result<(), Fail> {
     let known = Path::single(LAST_NAME);
     let unknown = Path::single(NO_NAME);
     loaded(
-        &rt,
         rt.alloc(),
         &[
             Change::Dep(SymbolNodeDep::Id(None, by)),
@@ -177,7 +167,6 @@ fn references_to_symbols(rt: HostRuntime) -> Result<(), Fail> {
         ],
     )?;
     refused(
-        &rt,
         rt.alloc(),
         &[
             Change::Dep(SymbolNodeDep::Id(Some(NO_SYMBOL), by)),
@@ -192,7 +181,6 @@ fn import_types(rt: HostRuntime) -> Result<(), Fail> {
     let known = Some(Path::single(LAST_NAME));
     let unknown = Some(Path::single(NO_NAME));
     loaded(
-        &rt,
         rt.alloc(),
         &[
             Change::Dep(SymbolNodeDep::ImportType(LAST_NAME, None)),
@@ -200,7 +188,6 @@ fn import_types(rt: HostRuntime) -> Result<(), Fail> {
         ],
     )?;
     refused(
-        &rt,
         rt.alloc(),
         &[
             Change::Dep(SymbolNodeDep::ImportType(NO_NAME, None)),

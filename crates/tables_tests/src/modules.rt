@@ -55,18 +55,16 @@ impl Case for Change {
 #[test]
 fn packages_of_modules(rt: HostRuntime) -> Result<(), Fail> {
     loaded(
-        &rt,
         rt.alloc(),
         &[Change::Package(None), Change::Package(Some(LAST_PACKAGE))],
     )?;
-    refused(&rt, rt.alloc(), &[Change::Package(Some(NO_PACKAGE))])
+    refused(rt.alloc(), &[Change::Package(Some(NO_PACKAGE))])
 }
 
 #[test]
 fn types_stand_on_typed_modules(rt: HostRuntime) -> Result<(), Fail> {
     let types = Some(LAST_MODULE);
     loaded(
-        &rt,
         rt.alloc(),
         &[
             Change::Types(ModuleKind::Typed, 1, types),
@@ -78,7 +76,6 @@ fn types_stand_on_typed_modules(rt: HostRuntime) -> Result<(), Fail> {
         ],
     )?;
     refused(
-        &rt,
         rt.alloc(),
         &[
             Change::Types(ModuleKind::Typed, 1, Some(NO_MODULE)),
@@ -94,7 +91,6 @@ fn types_stand_on_typed_modules(rt: HostRuntime) -> Result<(), Fail> {
 #[test]
 fn missing_and_external_modules_have_nothing_inside(rt: HostRuntime) -> Result<(), Fail> {
     loaded(
-        &rt,
         rt.alloc(),
         &[
             Change::Lists(ModuleKind::Missing, 0, 0, 0),
@@ -102,7 +98,6 @@ fn missing_and_external_modules_have_nothing_inside(rt: HostRuntime) -> Result<(
         ],
     )?;
     refused(
-        &rt,
         rt.alloc(),
         &[
             Change::Lists(ModuleKind::Missing, 1, 0, 0),
@@ -118,7 +113,6 @@ fn missing_and_external_modules_have_nothing_inside(rt: HostRuntime) -> Result<(
 #[test]
 fn other_modules_have_a_symbol(rt: HostRuntime) -> Result<(), Fail> {
     loaded(
-        &rt,
         rt.alloc(),
         &[
             Change::Lists(ModuleKind::Typed, 0, 0, 1),
@@ -128,7 +122,6 @@ fn other_modules_have_a_symbol(rt: HostRuntime) -> Result<(), Fail> {
         ],
     )?;
     refused(
-        &rt,
         rt.alloc(),
         &[
             Change::Lists(ModuleKind::Typed, 0, 0, 0),
@@ -142,12 +135,10 @@ fn other_modules_have_a_symbol(rt: HostRuntime) -> Result<(), Fail> {
 #[test]
 fn lists_of_a_module_are_not_too_long(rt: HostRuntime) -> Result<(), Fail> {
     loaded(
-        &rt,
         rt.alloc(),
         &[Change::Lists(ModuleKind::Typed, 4096, 4096, 4096)],
     )?;
     refused(
-        &rt,
         rt.alloc(),
         &[
             Change::Lists(ModuleKind::Typed, 4097, 0, 1),
@@ -161,7 +152,6 @@ fn lists_of_a_module_are_not_too_long(rt: HostRuntime) -> Result<(), Fail> {
 fn dependencies(rt: HostRuntime) -> Result<(), Fail> {
     // the second dependency has the specifier 1
     loaded(
-        &rt,
         rt.alloc(),
         &[
             Change::Dependency(NameId(2), None),
@@ -169,7 +159,6 @@ fn dependencies(rt: HostRuntime) -> Result<(), Fail> {
         ],
     )?;
     refused(
-        &rt,
         rt.alloc(),
         &[
             Change::Dependency(NameId(1), None),
@@ -182,7 +171,6 @@ fn dependencies(rt: HostRuntime) -> Result<(), Fail> {
 #[test]
 fn re_export_alls(rt: HostRuntime) -> Result<(), Fail> {
     loaded(
-        &rt,
         rt.alloc(),
         &[
             Change::ReExportAll(EMPTY, LAST_NAME),
@@ -191,7 +179,6 @@ fn re_export_alls(rt: HostRuntime) -> Result<(), Fail> {
         ],
     )?;
     refused(
-        &rt,
         rt.alloc(),
         &[
             Change::ReExportAll(EMPTY, NO_NAME),

@@ -36,28 +36,19 @@ impl Case for Change {
 
 #[test]
 fn names_are_2_to_65535(rt: HostRuntime) -> Result<(), Fail> {
-    loaded(&rt, rt.alloc(), &[Change::Names(2), Change::Names(65535)])?;
-    refused(&rt, rt.alloc(), &[Change::Names(1), Change::Names(65536)])
+    loaded(rt.alloc(), &[Change::Names(2), Change::Names(65535)])?;
+    refused(rt.alloc(), &[Change::Names(1), Change::Names(65536)])
 }
 
 #[test]
 fn packages_and_modules_are_not_too_many(rt: HostRuntime) -> Result<(), Fail> {
-    loaded(
-        &rt,
-        rt.alloc(),
-        &[Change::Packages(256), Change::Modules(1024)],
-    )?;
-    refused(
-        &rt,
-        rt.alloc(),
-        &[Change::Packages(257), Change::Modules(1025)],
-    )
+    loaded(rt.alloc(), &[Change::Packages(256), Change::Modules(1024)])?;
+    refused(rt.alloc(), &[Change::Packages(257), Change::Modules(1025)])
 }
 
 #[test]
 fn entries_may_repeat_and_are_not_too_many(rt: HostRuntime) -> Result<(), Fail> {
     loaded(
-        &rt,
         rt.alloc(),
         &[
             Change::Entries(LAST_MODULE, 0),
@@ -65,16 +56,15 @@ fn entries_may_repeat_and_are_not_too_many(rt: HostRuntime) -> Result<(), Fail> 
             Change::Entries(LAST_MODULE, 4096),
         ],
     )?;
-    refused(&rt, rt.alloc(), &[Change::Entries(LAST_MODULE, 4097)])
+    refused(rt.alloc(), &[Change::Entries(LAST_MODULE, 4097)])
 }
 
 #[test]
 fn entries_are_modules_of_their_package(rt: HostRuntime) -> Result<(), Fail> {
     let of_another = Change::Entries(ModuleId(0), 1);
     let of_none = Change::Entries(ModuleId(1), 1);
-    loaded(&rt, rt.alloc(), &[Change::Entries(LAST_MODULE, 1)])?;
+    loaded(rt.alloc(), &[Change::Entries(LAST_MODULE, 1)])?;
     refused(
-        &rt,
         rt.alloc(),
         &[of_another, of_none, Change::Entries(NO_MODULE, 1)],
     )

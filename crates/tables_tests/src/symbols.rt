@@ -33,12 +33,10 @@ impl Case for Change {
 #[test]
 fn parents_are_lower(rt: HostRuntime) -> Result<(), Fail> {
     loaded(
-        &rt,
         rt.alloc(),
         &[Change::Parent(None), Change::Parent(Some(SymbolId(0)))],
     )?;
     refused(
-        &rt,
         rt.alloc(),
         &[
             Change::Parent(Some(LAST_SYMBOL)),
@@ -50,7 +48,6 @@ fn parents_are_lower(rt: HostRuntime) -> Result<(), Fail> {
 #[test]
 fn lists_of_a_symbol_are_not_too_long(rt: HostRuntime) -> Result<(), Fail> {
     loaded(
-        &rt,
         rt.alloc(),
         &[
             Change::Decls(1),
@@ -63,7 +60,6 @@ fn lists_of_a_symbol_are_not_too_long(rt: HostRuntime) -> Result<(), Fail> {
         ],
     )?;
     refused(
-        &rt,
         rt.alloc(),
         &[
             Change::Decls(0),
@@ -78,7 +74,6 @@ fn lists_of_a_symbol_are_not_too_long(rt: HostRuntime) -> Result<(), Fail> {
 fn exports_and_members(rt: HostRuntime) -> Result<(), Fail> {
     // the second export has the name 1
     loaded(
-        &rt,
         rt.alloc(),
         &[
             Change::Export(NameId(2), SymbolId(0)),
@@ -87,7 +82,6 @@ fn exports_and_members(rt: HostRuntime) -> Result<(), Fail> {
         ],
     )?;
     refused(
-        &rt,
         rt.alloc(),
         &[
             Change::Export(NameId(1), SymbolId(0)),
