@@ -9,6 +9,7 @@ pub const PATH_LIMIT: usize = 8;
 
 // One to PATH_LIMIT names. What stands behind the last one is all name 0, so two paths of the
 // same names are the same value.
+// Memory is fixed: a path is copied and asks for none, so an array with a length holds its names.
 #[derive(Clone, Copy)]
 pub struct Path {
     pub(crate) names: [NameId; PATH_LIMIT],

@@ -61,7 +61,8 @@ impl Path {
         Path::single(first).extended(self.names())
     }
 
-    // The names of this path, and `more` after them.
+    // The names of this path, and `more` after them. Name by name, so that each step keeps the rule of a path; a copy of the
+    // whole slice would have to show it at once.
     fn extended(&self, more: &[NameId]) -> Result<Path, PathError>
         ensures { Makes (names_of self.now ++ more.now) result }
     {
@@ -86,6 +87,7 @@ impl Path {
 }
 
 // Two paths are equal where their names are: they are then the same value.
+// By hand: a derive would compare the padded arrays, and say nothing of the names.
 impl PartialEq for Path {
     ghost eq = { same_names };
 
@@ -105,6 +107,7 @@ impl Eq for Path {
 }
 
 // By the number of the first name in which two paths differ; a path stands before those that go on from it.
+// By hand: a derive could not promise this order of the names in its contract.
 impl PartialOrd for Path {
     ghost partial_cmp = { path_partial_order };
 
@@ -135,7 +138,7 @@ impl Ord for Path {
     }
 }
 
-// The numbers of the names, as of a slice.
+// The numbers of the names, as of a slice, and not what stands behind the last one.
 impl fmt::Debug for Path {
     fn fmt<W: fmt::Write>(&self, f: &mut fmt::Formatter<W>) -> fmt::Result {
         let names = self.names();

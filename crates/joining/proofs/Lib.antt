@@ -3,4 +3,3 @@ pub mod Fronts
 pub mod Lawfully
 pub mod RowFacts
 pub mod TableFacts
-pub mod Worked

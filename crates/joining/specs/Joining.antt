@@ -1,5 +1,6 @@
 -- Requests, records, and what joining one to the other makes. Assumes nothing.
-use Rattle.std.specs.Prelude.{ℕ, Bool, false, cond, not, ◌&&◌, ◌||◌, List, [], ◌∷◌, ◌++◌, length, Some, None, filter, Option}
+use Rattle.std.specs.Prelude.{ℕ, Bool, cond, not, ◌&&◌, List, [], ◌∷◌, ◌++◌, length, Some, None, filter, Option}
+use Rattle.std.specs.List.{list_any}
 use Rattle.ids.specs.declared.numbers.NameId.{NameId}
 use Rattle.ids.specs.declared.path_struct.Path.{Path}
 use Rattle.ids.specs.Names.{default_name}
@@ -20,8 +21,7 @@ nothing = kept []
 
 -- whether one of the paths passes a test
 abbrev pub any : (Path → Bool) → List Path → Bool
-any test [] = false
-any test (p ∷ ps) = test p || any test ps
+any = list_any
 
 -- whether one of the kept paths covers q
 abbrev pub some_covers : List Path → List NameId → Bool

@@ -1,5 +1,5 @@
 -- The rows of a table of records, and which record they tell of each module. Assumes nothing.
-use Rattle.std.specs.Prelude.{◌≡◌, ℕ, ◌<◌, Bool, true, false, cond, not, ◌&&◌, ◌||◌, List, [], ◌∷◌, length, get_or, Some, None, Option, ◌==◌, ◌≢◌, slice_index_or}
+use Rattle.std.specs.Prelude.{◌≡◌, ℕ, ◌<◌, Bool, true, false, not, ◌&&◌, ◌||◌, List, [], ◌∷◌, length, get_or, map, filter, Some, None, Option, ◌==◌, ◌≢◌, slice_index_or}
 use Rattle.std.specs.List.{slice_get}
 use Rattle.ids.specs.declared.numbers.ModuleId.{ModuleId}
 use Rattle.ids.specs.declared.numbers.NameId.{NameId}
@@ -16,8 +16,7 @@ of_module m row = row.module.0 == m.0
 
 -- the paths of a module's rows, in their order
 abbrev pub paths_of : ModuleId → List Row → List Path
-paths_of m [] = []
-paths_of m (row ∷ rows) = cond (of_module m row) (row.path ∷ paths_of m rows) (paths_of m rows)
+paths_of m rows = map (λ row. row.path) (filter (of_module m) rows)
 
 -- whether a row outlasts the removal of what `front` covers of a module
 abbrev pub stays : ModuleId → List NameId → Row → Bool

@@ -4,7 +4,8 @@ ghost use Rattle.joining.specs.Covering as spec;
 
 use ids::NameId;
 
-// Equal first names, and then the rest covers the rest.
+// Equal first names, and then the rest covers the rest: a recursion on both, as the rule says it, where
+// `starts_with` would say the same.
 fn rest_covers(front: &[NameId], path: &[NameId]) -> bool
     ensures { result ≡ spec.covers front.now path.now }
 {
@@ -17,7 +18,7 @@ fn rest_covers(front: &[NameId], path: &[NameId]) -> bool
     }
 }
 
-// The same, and what it means.
+// The same, and what it means: between the recursion and the public call, so that a planted bug there is refused in the code.
 fn begins_with(front: &[NameId], path: &[NameId]) -> bool
     ensures value { result ≡ spec.covers front.now path.now }
     ensures front { Decides result (spec.Front front.now path.now) }
@@ -31,4 +32,11 @@ pub fn covers(front: &[NameId], path: &[NameId]) -> bool
     ensures front { Decides result (spec.Front front.now path.now) }
 {
     begins_with(front, path)
+}
+
+// Whether a path begins with `default`.
+pub(crate) fn of_default(path: &[NameId]) -> bool
+    ensures { result ≡ spec.of_default path.now }
+{
+    path.first() == Some(&NameId::DEFAULT)
 }

@@ -6,7 +6,6 @@ mod records;
 mod records_struct;
 mod refusals;
 mod requests;
-mod row_lists;
 mod rows;
 
 pub use covering::covers;

@@ -1,18 +1,18 @@
 // The calls on a table of records. Only its making asks for memory.
-ghost use Rattle.std.specs.Prelude.{◌≡◌, ◌+◌, ◌-◌, ◌<◌, ◌≤◌, false, [], length, IfOk, if◌then◌else◌, Some, None, MatchResult, nat_lt};
+ghost use Rattle.std.specs.Prelude.{◌≡◌, ◌+◌, ◌-◌, ◌<◌, ◌≤◌, false, [], length, filter, IfOk, if◌then◌else◌, Some, None, MatchResult, nat_lt};
+ghost use Rattle.std.specs.List.{slice_get};
 ghost use Rattle.ids.specs.Paths.{names_of};
 ghost use Rattle.joining.specs.Examples.{Examples};
-ghost use Rattle.joining.specs.Joining.{star, some_covers, handed, joined, joined_paths, joined_record};
-ghost use Rattle.joining.specs.Laws.{Lawful, CoversBoth};
+ghost use Rattle.joining.specs.Joining.{some_covers, some_of_default, handed, joined, joined_paths};
 ghost use Rattle.joining.specs.Refusals as refusals;
-ghost use Rattle.joining.specs.Rows.{shaped, paths_of, Antichain};
+ghost use Rattle.joining.specs.Rows.{shaped, paths_of, stays};
 ghost use Rattle.joining.specs.Tables as spec;
 ghost use Rattle.joining.specs.Wanted.{rows_wanted};
 
+use crate::covering::{covers, of_default};
 use crate::records_struct::Records;
 use crate::refusals::Refusal;
 use crate::requests::Request;
-use crate::row_lists::{Covers, OfDefault, Test, any, count, remove_covered};
 use crate::rows::{Extent, Row};
 use ids::{ModuleId, NameId, Path};
 use std::alloc::{AllocError, Global};
@@ -50,11 +50,7 @@ impl Records {
     pub fn extent(&self, module: ModuleId) -> Option<Extent>
         ensures { result ≡ (if nat_lt «module».0 (spec.modules self.now) then Some (spec.extent_of self.now «module») else None) }
     {
-        if (module.0 as usize) < self.modules() {
-            Some(self.shape(module))
-        } else {
-            None
-        }
+        self.extents.get(module.0 as usize).copied()
     }
 
     // The rows of all modules.
@@ -68,7 +64,7 @@ impl Records {
     pub fn kept(&self, module: ModuleId) -> usize
         ensures { result ≡ spec.kept_rows self.now «module» }
     {
-        count(&self.rows, module)
+        self.rows.iter().filter(|row| row.module == module).count()
     }
 
     // Joins a request to the record of a module, and hands out what of it is new.
@@ -85,7 +81,15 @@ impl Records {
         ensures { spec.JoinsRecord self.old self.new «module» from.now result }
     {
         self.admits(module, from.kept(module))?;
-        self.join_admitted_record(module, from);
+        match from.shape(module) {
+            Extent::Full => {
+                let _ = self.join_admitted(module, Request::Full);
+            }
+            Extent::Star => {
+                let _ = self.join_admitted(module, Request::Star);
+            }
+            Extent::Paths => self.join_rows(module, from.rows()),
+        }
         Ok(())
     }
 
@@ -102,10 +106,7 @@ impl Records {
     fn shape(&self, module: ModuleId) -> Extent
         ensures { result ≡ spec.extent_of self.now «module» }
     {
-        self.extents
-            .get(module.0 as usize)
-            .copied()
-            .unwrap_or(Extent::Paths)
+        self.extent(module).unwrap_or(Extent::Paths)
     }
 
     // Whether there is such a module, and so many rows are free.
@@ -121,100 +122,48 @@ impl Records {
         Ok(())
     }
 
+    // Joins a request that is admitted. The record is full where star meets something of `default`:
+    // the one is in the record, and the other is asked.
     fn join_admitted(&mut self, module: ModuleId, request: Request) -> Option<Request>
         requires { spec.refusal self.old «module» (rows_wanted request) ≡ None }
         ensures out { result ≡ handed (spec.record_of self.old «module») request }
         ensures changes { spec.Changes self.old self.new «module» (joined (spec.record_of self.old «module») request) }
-        ensures laws { Lawful (spec.record_of self.old «module») request }
-        ensures apart { Antichain self.new.rows.items }
     {
         match self.shape(module) {
             Extent::Full => None,
-            Extent::Star => self.join_to_star(module, request),
-            Extent::Paths => self.join_to_paths(module, request),
-        }
-    }
-
-    fn join_to_star(&mut self, module: ModuleId, request: Request) -> Option<Request>
-        requires inside { «module».0 < spec.modules self.old }
-        requires star { spec.extent_of self.old «module» ≡ Extent.Star }
-        ensures out { result ≡ handed star request }
-        ensures changes { spec.Changes self.old self.new «module» (joined star request) }
-    {
-        let asks_default = match request {
-            Request::Path(path) => OfDefault.test(&path),
-            Request::Star => false,
-            Request::Full => true,
-        };
-        if !asks_default {
-            return None;
-        }
-        self.reset(module, Extent::Full);
-        Some(Request::Path(Path::single(NameId::DEFAULT)))
-    }
-
-    fn join_to_paths(&mut self, module: ModuleId, request: Request) -> Option<Request>
-        requires inside { «module».0 < spec.modules self.old }
-        requires paths { spec.extent_of self.old «module» ≡ Extent.Paths }
-        requires room { rows_wanted request + spec.used self.old ≤ self.old.limit }
-        ensures out { result ≡ handed (spec.record_of self.old «module») request }
-        ensures changes { spec.Changes self.old self.new «module» (joined (spec.record_of self.old «module») request) }
-    {
-        match request {
-            Request::Path(path) => {
-                let covered = any(&self.rows, module, &Covers(path));
-                if covered {
+            Extent::Star => {
+                if !request.asks_default() {
                     return None;
                 }
-                self.keep(module, path);
-                Some(request)
-            }
-            Request::Star => Some(self.join_star_to_paths(module)),
-            Request::Full => {
                 self.reset(module, Extent::Full);
-                Some(Request::Full)
+                Some(Request::Path(Path::single(NameId::DEFAULT)))
             }
+            Extent::Paths => match request {
+                Request::Path(path) => {
+                    if self.some_covers(module, path.names()) {
+                        return None;
+                    }
+                    self.keep(module, path);
+                    Some(request)
+                }
+                Request::Star => {
+                    // where a part of `default` is kept, and not all of it, the rest is new
+                    let part = self.some_of_default(module);
+                    let rest = part && !self.some_covers(module, &[NameId::DEFAULT]);
+                    self.reset(module, if part { Extent::Full } else { Extent::Star });
+                    Some(if rest { Request::Full } else { Request::Star })
+                }
+                Request::Full => {
+                    self.reset(module, Extent::Full);
+                    Some(Request::Full)
+                }
+            },
         }
     }
 
-    // Star takes the place of kept paths. Where one of them begins with `default` the record is full,
-    // and so is what is handed out, unless all of `default` has been handed out before.
-    fn join_star_to_paths(&mut self, module: ModuleId) -> Request
-        requires inside { «module».0 < spec.modules self.old }
-        requires paths { spec.extent_of self.old «module» ≡ Extent.Paths }
-        ensures out { Some result ≡ handed (spec.record_of self.old «module») Request.Star }
-        ensures changes { spec.Changes self.old self.new «module» (joined (spec.record_of self.old «module») Request.Star) }
-    {
-        let has_default = any(&self.rows, module, &OfDefault);
-        if !has_default {
-            self.reset(module, Extent::Star);
-            return Request::Star;
-        }
-        let whole = any(&self.rows, module, &Covers(Path::single(NameId::DEFAULT)));
-        self.reset(module, Extent::Full);
-        if whole { Request::Star } else { Request::Full }
-    }
-
-    fn join_admitted_record(&mut self, module: ModuleId, from: &Records)
-        requires { spec.refusal self.old «module» (spec.kept_rows from.now «module») ≡ None }
-        ensures changes { spec.Changes self.old self.new «module» (joined_record (spec.record_of self.old «module») (spec.record_of from.now «module»)) }
-        ensures laws { CoversBoth (spec.record_of self.old «module») (spec.record_of from.now «module») }
-        ensures apart { Antichain self.new.rows.items }
-    {
-        match from.shape(module) {
-            Extent::Full => {
-                let _ = self.join_admitted(module, Request::Full);
-            }
-            Extent::Star => {
-                let _ = self.join_admitted(module, Request::Star);
-            }
-            Extent::Paths => self.join_rows(module, from.rows()),
-        }
-    }
-
+    // Joins the paths of a module's rows, one after another: a loop, as each changes the table.
     fn join_rows(&mut self, module: ModuleId, rows: &[Row])
-        requires inside { «module».0 < spec.modules self.old }
-        requires room { length (paths_of «module» rows.now) + spec.used self.old ≤ self.old.limit }
+        requires { spec.refusal self.old «module» (length (paths_of «module» rows.now)) ≡ None }
         ensures { spec.Changes self.old self.new «module» (joined_paths (spec.record_of self.old «module») (paths_of «module» rows.now)) }
     {
         for row in rows {
@@ -229,19 +178,49 @@ impl Records {
         requires { «module».0 < spec.modules self.old }
         ensures { spec.Changes self.old self.new «module» (shaped extent []) }
     {
-        remove_covered(&mut self.rows, module, &[]);
+        self.remove_covered(module, &[]);
         self.extents[module.0 as usize] = extent;
     }
 
     // Keeps a path that no kept one covers, in the place of those that it covers.
     fn keep(&mut self, module: ModuleId, path: Path)
-        requires inside { «module».0 < spec.modules self.old }
-        requires paths { spec.extent_of self.old «module» ≡ Extent.Paths }
+        requires paths { slice_get self.old.extents.items «module».0 ≡ Some Extent.Paths }
         requires room { spec.used self.old < self.old.limit }
         requires uncovered { some_covers (paths_of «module» self.old.rows.items) (names_of path) ≡ false }
         ensures { spec.Changes self.old self.new «module» (joined (spec.record_of self.old «module») (Request.Path path)) }
     {
-        remove_covered(&mut self.rows, module, path.names());
+        self.remove_covered(module, path.names());
         self.rows.push_reserved(Row { module, path });
+    }
+
+    // Removes the rows of a module whose paths `front` covers; without a name, all of its rows.
+    fn remove_covered(&mut self, module: ModuleId, front: &[NameId])
+        ensures rows { self.new.rows.items ≡ filter (stays «module» front.now) self.old.rows.items }
+        ensures fewer { spec.used self.new ≤ spec.used self.old }
+        ensures extents { self.new.extents ≡ self.old.extents }
+        ensures limit { self.new.limit ≡ self.old.limit }
+    {
+        self.rows.retain(|row| !(row.module == module && covers(front, row.path.names())));
+    }
+
+    // Whether a kept path of a module covers `path`. A function of its own, as the next one: to say what a closure computes
+    // would take more than the chain.
+    fn some_covers(&self, module: ModuleId, path: &[NameId]) -> bool
+        ensures { result ≡ some_covers (paths_of «module» self.now.rows.items) path.now }
+    {
+        self.rows
+            .iter()
+            .filter(|row| row.module == module)
+            .any(|row| covers(row.path.names(), path))
+    }
+
+    // Whether a kept path of a module begins with `default`.
+    fn some_of_default(&self, module: ModuleId) -> bool
+        ensures { result ≡ some_of_default (paths_of «module» self.now.rows.items) }
+    {
+        self.rows
+            .iter()
+            .filter(|row| row.module == module)
+            .any(|row| of_default(row.path.names()))
     }
 }

@@ -6,6 +6,7 @@ use crate::rows::{Extent, Row};
 
 // The records of many modules. The kept paths of all of them stand in one list of rows, which is
 // reserved at the making and never grows past its limit.
+// Memory is fixed: no call but the making asks for any, so the limit stands beside the rows.
 #[derive(Drop)]
 pub struct Records {
     pub(crate) extents: Vec<Extent>,

@@ -1,13 +1,14 @@
-// Why a call on a table of records is refused.
+// Why a call on a table of records is refused. Each crate has just the refusals of its own calls: one enum for all would
+// let each call answer what it never does.
 ghost use Rattle.std.specs.Prelude.{◌≡◌};
 ghost use Rattle.joining.specs.Refusals as spec;
 
 #[derive(Clone, Copy, PartialEq, Eq, Debug)]
 pub enum Refusal {
     // the table has no such module
-    NoSuchModule,
+    NoSuchModule = 1,
     // the rows that the request may need are not free
-    NoFreeRow,
+    NoFreeRow = 9,
 }
 
 impl Refusal {
@@ -15,9 +16,6 @@ impl Refusal {
     pub fn number(self) -> u8
         ensures { result ≡ spec.number self }
     {
-        match self {
-            Refusal::NoSuchModule => 1,
-            Refusal::NoFreeRow => 9,
-        }
+        self as u8
     }
 }

@@ -19,6 +19,7 @@ mod tests {
 
     const WATER: NameId = NameId(4);
 
+    // A path of one name cannot fail: one helper for both would put a `?` at each use of it.
     fn one(name: NameId) -> Request {
         Request::Path(Path::single(name))
     }

@@ -2,7 +2,7 @@ use Rattle.std.proofs.Common.{◌&&◌, drop, sym, ap, ◌∙◌, arith, ltb-fal
 use Rattle.std.proofs.lemmas.List.{take_rest}
 use Rattle.ids.specs.Names.{default_name}
 use Rattle.joining.specs.Covering.{covers}
-use Rattle.joining.proofs.Covered.{covers_none, covers_more}
+use Rattle.joining.proofs.Fronts.{covers_none, covers_more}
 use Rattle.joining.proofs.covering.+rest_covers.Goals as goal
 
 pub returns-in-empty : goal.returns-in-empty

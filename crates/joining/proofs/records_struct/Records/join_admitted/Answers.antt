@@ -1,13 +1,12 @@
-use Rattle.std.proofs.Common.{rules}
-use Rattle.joining.proofs.Lawfully.{lawful}
-use Rattle.joining.proofs.RowFacts.{antichain}
+use Rattle.std.proofs.Common.{Some, vec_items, sym, ap, ◌∙◌}
+use Rattle.ids.proofs.Padding.{same_path}
+use Rattle.ids.specs.Paths.{default_path}
+use Rattle.joining.specs.Joining.{handed}
+use Rattle.joining.specs.Rows.{paths_of, shaped}
+use Rattle.joining.specs.declared.requests.Request.TheVariants.{Path as Ask}
 use Rattle.joining.proofs.records_struct.Records.join_admitted.Goals as goal
 
-pub returns-in-Full : goal.returns-in-Full
-returns-in-Full c = record { out = search rules; changes = search rules; laws = lawful _ _; apart = antichain _ c.args.self.now.apart }
-
-pub returns-in-Star : goal.returns-in-Star
-returns-in-Star c = record { out = search rules; changes = search rules; laws = lawful _ _; apart = antichain _ c.join_to_star.new.self.apart }
-
-pub returns-in-Paths : goal.returns-in-Paths
-returns-in-Paths c = record { out = search rules; changes = search rules; laws = lawful _ _; apart = antichain _ c.join_to_paths.new.self.apart }
+pub returns-else-not-asks_default-clause-out : goal.returns-else-not-asks_default-clause-out
+returns-else-not-asks_default-clause-out c =
+    let out = ap (λ p. Some (Ask p)) (same_path c.single.result default_path c.single.ensures) in
+    out ∙ sym c.if-not-asks_default.ensures.out ∙ ap (λ e. handed (shaped e (paths_of c.args.«module» (vec_items c.args.self.now.rows))) c.args.request) c.in-Star.ensures
