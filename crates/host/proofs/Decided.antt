@@ -1,16 +1,18 @@
 -- The tests of the records say the same as the rules. Assumes nothing.
-use Rattle.std.proofs.Common.{◌≡◌, ℕ, zero, suc, ◌^◌, ◌<◌, ◌≤◌, Bool, true, false, not, ◌&&◌, ◌||◌, eqb, ltb, leb, ◌⊎◌, List, [], ◌∷◌, map, length, get_or, IfSome, Some, None, Decides, Option, sym, refl, ap, ◌∙◌, inl, inr, arith}
-use Rattle.std.proofs.lemmas.Bool.{eqb-true, eq-eqb, leb-true, le-leb, false≢true, true≢false, not-true, or_cases, or_left, or_right, and_parts}
+use Rattle.std.proofs.Common.{◌≡◌, ℕ, zero, suc, ◌^◌, ◌<◌, ◌≤◌, Bool, true, false, not, ◌&&◌, ◌||◌, eqb, ltb, leb, List, [], ◌∷◌, map, length, get_or, IfSome, Some, None, Decides, Option, sym, refl, ap, ◌∙◌, arith}
+use Rattle.std.proofs.lemmas.Bool.{eqb-true, eq-eqb, leb-true, le-leb, false≢true, true≢false, not-true, and_parts, false_from_ne_true}
+use Rattle.std.proofs.lemmas.List.{get_or_default}
+use Rattle.std.proofs.lemmas.List.Folds.{Any-from_list_any, list_any_at}
 use Rattle.std.proofs.lemmas.Bool.Decides.{Decides-eqb, Decides-ltb, Decides-and, Decides-like}
 use Rattle.std.proofs.ByRecursion.{Decides-by_and}
-use Rattle.std.specs.List.{AllByRecursion, slice_get}
+use Rattle.std.specs.List.{AllByRecursion, list_all, slice_get}
 use Rattle.ids.specs.Paths.{names_of}
 use Rattle.ids.specs.declared.numbers.NameId.{NameId}
 use Rattle.ids.specs.declared.numbers.SymbolId.{SymbolId}
 use Rattle.ids.specs.declared.path_struct.Path.{Path}
 use Rattle.host.specs.Program.{DeclKind, target, qualified_target, file_ref, definition, Decl, Symbol, Module, Package, Program}
 use Rattle.host.specs.Rules.{name_limit, package_limit, module_limit, list_limit, AllAt, Distinct, NameKnown, PathKnown, SymbolKnown, RangeKept, DepKept, FileNameKnown, KindKept, is_definition, unflagged, DeclKept, ExportKnown, SymbolKept, DependencyKept, ReExportAllKept, ListsKept, is_typed, ModuleKept, owner_of, EntryKept, EntriesKept, PackageKept, Kept}
-use Rattle.host.specs.Tests.{all, all_at, held, among, distinct, name_known, path_known, symbol_known, range_kept, dep_kept, file_name_known, kind_kept, decl_kept, export_known, symbol_kept, dependency_kept, re_export_all_kept, lists_kept, module_kept, is_number, entry_kept, entries_kept, package_kept, valid}
+use Rattle.host.specs.Tests.{all_at, held, among, distinct, name_known, path_known, symbol_known, range_kept, dep_kept, file_name_known, kind_kept, decl_kept, export_known, symbol_kept, dependency_kept, re_export_all_kept, lists_kept, module_kept, is_number, entry_kept, entries_kept, package_kept, valid}
 use Rattle.host.specs.declared.told.Dependency.{Dependency}
 use Rattle.host.specs.declared.told.Export.{Export}
 use Rattle.host.specs.declared.told.FileDepName.{FileDepName}
@@ -27,8 +29,8 @@ use Rattle.host.specs.declared.told.SymbolNodeDep.TheVariants.{Id, QualifiedId, 
 pub decides_leb : (a b : ℕ) → Decides (leb a b) (a ≤ b)
 decides_leb a b = (leb-true a b, le-leb a b)
 
-pub decides_all : {X : Type 0} (t : X → Bool) (P : X → Type 0) → ((x : X) → Decides (t x) (P x)) → (xs : List X) → Decides (all t xs) (AllByRecursion P xs)
-decides_all t P each xs = Decides-by_and t P (all t) each refl (λ _ _. refl) xs
+pub decides_all : {X : Type 0} (t : X → Bool) (P : X → Type 0) → ((x : X) → Decides (t x) (P x)) → (xs : List X) → Decides (list_all t xs) (AllByRecursion P xs)
+decides_all t P each xs = Decides-by_and t P (list_all t) each refl (λ _ _. refl) xs
 
 decides_all_at : {X : Type 0} (t : ℕ → X → Bool) (P : ℕ → X → Type 0) → ((i : ℕ) (x : X) → Decides (t i x) (P i x)) → (i : ℕ) (xs : List X) → Decides (all_at t i xs) (AllAt P i xs)
 decides_all_at t P each i [] = (λ _. tt, λ _. refl)
@@ -41,17 +43,12 @@ decides_held (Some x) t P each = each x
 -- distinct numbers
 
 among_place : (n : ℕ) (ns : List ℕ) → among n ns ≡ true → (k : ℕ) × (k < length ns) × (get_or ns k 0 ≡ n)
-among_place n [] h = absurd (false≢true h)
-among_place n (m ∷ ns) h = by_case (or_cases (eqb n m) (among n ns) h) (λ r. among_place n ns r)
-  where
-    by_case : (eqb n m ≡ true) ⊎ (among n ns ≡ true) → (among n ns ≡ true → (k : ℕ) × (k < length ns) × (get_or ns k 0 ≡ n)) → (k : ℕ) × (k < suc (length ns)) × (get_or (m ∷ ns) k 0 ≡ n)
-    by_case (inl e) rest = (zero, omega arith, sym (eqb-true n m e))
-    by_case (inr r) rest = let k = rest r in (suc k.0, omega (arith, k.1), k.2)
+among_place n ns h =
+    let a = Any-from_list_any (eqb n) ns h in
+    (a.0, a.2, get_or_default ns a.0 0 a.1 a.2 ∙ a.3 ∙ sym (eqb-true n a.1 a.4))
 
 place_among : (n : ℕ) (ns : List ℕ) (k : ℕ) → k < length ns → get_or ns k 0 ≡ n → among n ns ≡ true
-place_among n [] k h e = absurd (omega arith)
-place_among n (m ∷ ns) zero h e = or_left (eqb n m) (among n ns) (eq-eqb n m (sym e))
-place_among n (m ∷ ns) (suc k) h e = or_right (eqb n m) (among n ns) (place_among n ns k (omega arith) e)
+place_among n ns k h e = list_any_at (eqb n) ns k 0 h (eq-eqb n (get_or ns k 0) (sym e))
 
 distinct_places : (ns : List ℕ) → distinct ns ≡ true → Distinct ns
 distinct_places [] h i j wi wj e = absurd (omega arith)
@@ -60,16 +57,12 @@ distinct_places (n ∷ ns) h zero (suc j) wi wj e = absurd (true≢false (sym (p
 distinct_places (n ∷ ns) h (suc i) zero wi wj e = absurd (true≢false (sym (place_among n ns i (omega arith) e) ∙ not-true (among n ns) (and_parts (not (among n ns)) (distinct ns) h).0))
 distinct_places (n ∷ ns) h (suc i) (suc j) wi wj e = ap suc (distinct_places ns (and_parts (not (among n ns)) (distinct ns) h).1 i j (omega arith) (omega arith) e)
 
-is_false : (b : Bool) → (b ≡ true → ⊥) → b ≡ false
-is_false true h = absurd (h refl)
-is_false false h = refl
-
 places_distinct : (ns : List ℕ) → Distinct ns → distinct ns ≡ true
 places_distinct [] h = refl
 places_distinct (n ∷ ns) h =
     let rest : Distinct ns = λ i j wi wj e. let s = h (suc i) (suc j) (omega arith) (omega arith) e in omega arith in
     let alone : among n ns ≡ true → ⊥ = λ a. let k = among_place n ns a in let s = h zero (suc k.0) (omega arith) (omega (arith, k.1)) (sym k.2) in omega arith in
-    ap (λ b. not b && distinct ns) (is_false (among n ns) alone) ∙ places_distinct ns rest
+    ap (λ b. not b && distinct ns) (false_from_ne_true (among n ns) alone) ∙ places_distinct ns rest
 
 pub decides_distinct : (ns : List ℕ) → Decides (distinct ns) (Distinct ns)
 decides_distinct ns = (distinct_places ns, places_distinct ns)
@@ -106,7 +99,7 @@ kind : (names symbols : ℕ) (k : DeclKind) → Decides (kind_kept names symbols
 kind names symbols (target s) = maybe_symbol symbols s
 kind names symbols (qualified_target s p) = Decides-and (held s (symbol_known symbols)) (path_known names p) (maybe_symbol symbols s) (path names p)
 kind names symbols (file_ref f) = Decides-and (name_known names f.specifier) (file_name_known names f.name) (name names f.specifier) (file_name names f.name)
-kind names symbols (definition k deps) = Decides-and (leb (length deps) list_limit) (all (dep_kept names symbols) deps) (decides_leb (length deps) list_limit) (decides_all (dep_kept names symbols) (DepKept names symbols) (dep names symbols) deps)
+kind names symbols (definition k deps) = Decides-and (leb (length deps) list_limit) (list_all (dep_kept names symbols) deps) (decides_leb (length deps) list_limit) (decides_all (dep_kept names symbols) (DepKept names symbols) (dep names symbols) deps)
 
 only_there : (a b : Bool) → Decides (a || b) (a ≡ false → b ≡ true)
 only_there true b = (λ _ e. absurd (true≢false e), λ _. refl)
@@ -129,9 +122,9 @@ module _ (names symbols : ℕ) where
       let members = decides_all (symbol_known symbols) (SymbolKnown symbols) (symbol symbols) s.members in
       let a = Decides-and (leb (length s.members) list_limit) _ (decides_leb (length s.members) list_limit) members in
       let b = Decides-and (distinct (map (λ e. e.name.0) s.exports)) _ (decides_distinct (map (λ e. e.name.0) s.exports)) a in
-      let c = Decides-and (all (export_known names symbols) s.exports) _ (decides_all (export_known names symbols) (ExportKnown names symbols) export_of s.exports) b in
+      let c = Decides-and (list_all (export_known names symbols) s.exports) _ (decides_all (export_known names symbols) (ExportKnown names symbols) export_of s.exports) b in
       let d = Decides-and (leb (length s.exports) list_limit) _ (decides_leb (length s.exports) list_limit) c in
-      let e = Decides-and (all (decl_kept names symbols) s.decls) _ (decides_all (decl_kept names symbols) (DeclKept names symbols) decl s.decls) d in
+      let e = Decides-and (list_all (decl_kept names symbols) s.decls) _ (decides_all (decl_kept names symbols) (DeclKept names symbols) decl s.decls) d in
       let f = Decides-and (leb (length s.decls) list_limit) _ (decides_leb (length s.decls) list_limit) e in
       let g = Decides-and (leb 1 (length s.decls)) _ (decides_leb 1 (length s.decls)) f in
       Decides-like (symbol_kept names symbols i s)
@@ -161,10 +154,10 @@ module _ (names packages modules : ℕ) where
   module_of m =
       let symbols = decides_all_at (symbol_kept names (length m.symbols)) (SymbolKept names (length m.symbols)) (symbol_of names (length m.symbols)) 0 m.symbols in
       let a = Decides-and (leb (length m.symbols) list_limit) _ (decides_leb (length m.symbols) list_limit) symbols in
-      let b = Decides-and (all (re_export_all_kept names) m.re_export_alls) _ (decides_all (re_export_all_kept names) (ReExportAllKept names) re_export_all m.re_export_alls) a in
+      let b = Decides-and (list_all (re_export_all_kept names) m.re_export_alls) _ (decides_all (re_export_all_kept names) (ReExportAllKept names) re_export_all m.re_export_alls) a in
       let c = Decides-and (leb (length m.re_export_alls) list_limit) _ (decides_leb (length m.re_export_alls) list_limit) b in
       let d = Decides-and (distinct (map (λ d. d.specifier.0) m.dependencies)) _ (decides_distinct (map (λ d. d.specifier.0) m.dependencies)) c in
-      let e = Decides-and (all (dependency_kept names modules) m.dependencies) _ (decides_all (dependency_kept names modules) (DependencyKept names modules) dependency m.dependencies) d in
+      let e = Decides-and (list_all (dependency_kept names modules) m.dependencies) _ (decides_all (dependency_kept names modules) (DependencyKept names modules) dependency m.dependencies) d in
       let f = Decides-and (leb (length m.dependencies) list_limit) _ (decides_leb (length m.dependencies) list_limit) e in
       let g = Decides-and (lists_kept m.kind (length m.dependencies) (length m.re_export_alls) (length m.symbols)) _ (lists m.kind (length m.dependencies) (length m.re_export_alls) (length m.symbols)) f in
       let h = Decides-and (held m.types (λ t. is_typed m.kind)) _ (decides_held m.types (λ t. is_typed m.kind) (λ t. is_typed m.kind ≡ true) (λ t. itself (is_typed m.kind))) g in

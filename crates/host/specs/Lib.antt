@@ -1,3 +1,4 @@
+pub mod Lists
 pub mod Lookups
 pub mod Namespaces
 pub mod Program

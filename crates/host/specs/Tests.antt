@@ -1,6 +1,6 @@
 -- The rules of the records as tests that compute, field by field as in Rules.antt. Assumes nothing.
 use Rattle.std.specs.Prelude.{ℕ, suc, ◌^◌, Bool, true, false, not, ◌&&◌, ◌||◌, List, [], ◌∷◌, map, length, Some, None, Option, ◌==◌, nat_le, nat_lt}
-use Rattle.std.specs.List.{slice_get}
+use Rattle.std.specs.List.{list_all, list_any, slice_get}
 use Rattle.ids.specs.Paths.{names_of}
 use Rattle.ids.specs.declared.numbers.ModuleId.{ModuleId}
 use Rattle.ids.specs.declared.numbers.NameId.{NameId}
@@ -19,10 +19,6 @@ use Rattle.host.specs.declared.told.SourceRange.{SourceRange}
 use Rattle.host.specs.declared.told.SymbolNodeDep.{SymbolNodeDep}
 use Rattle.host.specs.declared.told.SymbolNodeDep.TheVariants.{Id, QualifiedId, ImportType}
 
-abbrev pub all : {X : Type 0} → (X → Bool) → List X → Bool
-all t [] = true
-all t (x ∷ xs) = t x && all t xs
-
 abbrev pub all_at : {X : Type 0} → (ℕ → X → Bool) → ℕ → List X → Bool
 all_at t i [] = true
 all_at t i (x ∷ xs) = t i x && all_at t (suc i) xs
@@ -33,8 +29,7 @@ held None t = true
 held (Some x) t = t x
 
 abbrev pub among : ℕ → List ℕ → Bool
-among n [] = false
-among n (m ∷ ms) = n == m || among n ms
+among n ns = list_any (λ m. n == m) ns
 
 abbrev pub distinct : List ℕ → Bool
 distinct [] = true
@@ -44,7 +39,7 @@ abbrev pub name_known : ℕ → NameId → Bool
 name_known names n = nat_lt n.0 names
 
 abbrev pub path_known : ℕ → Path → Bool
-path_known names p = all (name_known names) (names_of p)
+path_known names p = list_all (name_known names) (names_of p)
 
 abbrev pub symbol_known : ℕ → SymbolId → Bool
 symbol_known symbols s = nat_lt s.0 symbols
@@ -65,7 +60,7 @@ abbrev pub kind_kept : ℕ → ℕ → DeclKind → Bool
 kind_kept names symbols (target s) = held s (symbol_known symbols)
 kind_kept names symbols (qualified_target s p) = held s (symbol_known symbols) && path_known names p
 kind_kept names symbols (file_ref f) = name_known names f.specifier && file_name_known names f.name
-kind_kept names symbols (definition k deps) = nat_le (length deps) list_limit && all (dep_kept names symbols) deps
+kind_kept names symbols (definition k deps) = nat_le (length deps) list_limit && list_all (dep_kept names symbols) deps
 
 abbrev pub decl_kept : ℕ → ℕ → Decl → Bool
 decl_kept names symbols d =
@@ -76,7 +71,7 @@ export_known names symbols e = name_known names e.name && symbol_known symbols e
 
 abbrev pub symbol_kept : ℕ → ℕ → ℕ → Symbol → Bool
 symbol_kept names symbols i s =
-    held s.parent (λ p. nat_lt p.0 i) && (nat_le 1 (length s.decls) && (nat_le (length s.decls) list_limit && (all (decl_kept names symbols) s.decls && (nat_le (length s.exports) list_limit && (all (export_known names symbols) s.exports && (distinct (map (λ e. e.name.0) s.exports) && (nat_le (length s.members) list_limit && all (symbol_known symbols) s.members)))))))
+    held s.parent (λ p. nat_lt p.0 i) && (nat_le 1 (length s.decls) && (nat_le (length s.decls) list_limit && (list_all (decl_kept names symbols) s.decls && (nat_le (length s.exports) list_limit && (list_all (export_known names symbols) s.exports && (distinct (map (λ e. e.name.0) s.exports) && (nat_le (length s.members) list_limit && list_all (symbol_known symbols) s.members)))))))
 
 abbrev pub dependency_kept : ℕ → ℕ → Dependency → Bool
 dependency_kept names modules d = name_known names d.specifier && held d.target (λ t. nat_lt t.0 modules)
@@ -94,7 +89,7 @@ lists_kept External dependencies re_export_alls symbols = dependencies == 0 && (
 
 abbrev pub module_kept : ℕ → ℕ → ℕ → Module → Bool
 module_kept names packages modules m =
-    held m.«package» (λ p. nat_lt p.0 packages) && (held m.types (λ t. nat_lt t.0 modules) && (held m.types (λ t. is_typed m.kind) && (lists_kept m.kind (length m.dependencies) (length m.re_export_alls) (length m.symbols) && (nat_le (length m.dependencies) list_limit && (all (dependency_kept names modules) m.dependencies && (distinct (map (λ d. d.specifier.0) m.dependencies) && (nat_le (length m.re_export_alls) list_limit && (all (re_export_all_kept names) m.re_export_alls && (nat_le (length m.symbols) list_limit && all_at (symbol_kept names (length m.symbols)) 0 m.symbols)))))))))
+    held m.«package» (λ p. nat_lt p.0 packages) && (held m.types (λ t. nat_lt t.0 modules) && (held m.types (λ t. is_typed m.kind) && (lists_kept m.kind (length m.dependencies) (length m.re_export_alls) (length m.symbols) && (nat_le (length m.dependencies) list_limit && (list_all (dependency_kept names modules) m.dependencies && (distinct (map (λ d. d.specifier.0) m.dependencies) && (nat_le (length m.re_export_alls) list_limit && (list_all (re_export_all_kept names) m.re_export_alls && (nat_le (length m.symbols) list_limit && all_at (symbol_kept names (length m.symbols)) 0 m.symbols)))))))))
 
 abbrev pub is_number : ℕ → Option ℕ → Bool
 is_number i None = false
@@ -104,7 +99,7 @@ abbrev pub entry_kept : List Module → ℕ → ModuleId → Bool
 entry_kept modules i m = is_number i (owner_of (slice_get modules m.0))
 
 abbrev pub entries_kept : List Module → ℕ → List ModuleId → Bool
-entries_kept modules i es = nat_le (length es) list_limit && all (entry_kept modules i) es
+entries_kept modules i es = nat_le (length es) list_limit && list_all (entry_kept modules i) es
 
 abbrev pub package_kept : List Module → ℕ → Package → Bool
 package_kept modules i p = held p.entries (entries_kept modules i)
@@ -112,4 +107,4 @@ package_kept modules i p = held p.entries (entries_kept modules i)
 -- whether a program keeps the rules
 unfoldable pub valid : Program → Bool
 valid p =
-    nat_le 2 p.names && (nat_le p.names name_limit && (nat_le (length p.packages) package_limit && (nat_le (length p.modules) module_limit && (all_at (package_kept p.modules) 0 p.packages && all (module_kept p.names (length p.packages) (length p.modules)) p.modules))))
+    nat_le 2 p.names && (nat_le p.names name_limit && (nat_le (length p.packages) package_limit && (nat_le (length p.modules) module_limit && (all_at (package_kept p.modules) 0 p.packages && list_all (module_kept p.names (length p.packages) (length p.modules)) p.modules))))

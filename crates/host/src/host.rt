@@ -11,6 +11,7 @@ use crate::told::{
 };
 use ids::{ModuleId, PackageId, SymbolId};
 
+// Numbers stand side by side in the questions, as the published source asks.
 pub trait Host {
     // the analysed program that the host tells
     ghost program: { Self → Program };

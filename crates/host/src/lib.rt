@@ -2,10 +2,12 @@
 #![tactic(auto)]
 
 mod host;
+mod lists;
 mod node_kinds;
 mod told;
 
 pub use host::Host;
+pub use lists::distinct;
 pub use node_kinds::NodeKind;
 pub use told::{
     Dependency, Export, FileDep, FileDepName, ModuleInfo, ModuleKind, PackageInfo, ReExportAll,

@@ -3,7 +3,7 @@ ghost use Rattle.std.specs.Prelude.{◌≡◌};
 ghost use Rattle.host.specs.Namespaces as spec;
 
 // In this order they are numbered from 0.
-#[derive(Clone, Copy)]
+#[derive(Clone, Copy, PartialEq, Eq, Debug)]
 pub enum NodeKind {
     Module,
     ExportDefaultExpr,
@@ -42,13 +42,15 @@ pub enum NodeKind {
     DefaultClass,
 }
 
-const VALUE: (bool, bool) = (true, false);
+// In a pair: whether something is a value, and whether it is a type.
+pub(crate) const VALUE: (bool, bool) = (true, false);
 
-const TYPE: (bool, bool) = (false, true);
+pub(crate) const TYPE: (bool, bool) = (false, true);
 
-const BOTH: (bool, bool) = (true, true);
+pub(crate) const BOTH: (bool, bool) = (true, true);
 
 // Whether a node of each kind is a value, and whether it is a type.
+// The pairs and the table are those of the published source and of docs/HOSTS.md.
 const NAMESPACES: [(bool, bool); 33] = [
     BOTH, VALUE, BOTH, VALUE, BOTH, TYPE, BOTH, TYPE, VALUE, VALUE, BOTH, BOTH, BOTH, BOTH, BOTH,
     VALUE, BOTH, BOTH, BOTH, BOTH, BOTH, BOTH, BOTH, BOTH, VALUE, VALUE, BOTH, TYPE, BOTH, TYPE,

@@ -2,11 +2,11 @@
 ghost use Rattle.std.specs.Prelude.{◌≡◌};
 ghost use Rattle.host.specs.Namespaces as spec;
 
-use crate::node_kinds::NodeKind;
+use crate::node_kinds::{BOTH, NodeKind, TYPE, VALUE};
 use ids::{ModuleId, NameId, PackageId, Path, SymbolId};
 
 // What a module is.
-#[derive(Clone, Copy)]
+#[derive(Clone, Copy, PartialEq, Eq, Debug)]
 pub enum ModuleKind {
     // it could not be loaded
     Missing,
@@ -30,19 +30,19 @@ impl ModuleKind {
 }
 
 // A stretch of a source, in bytes: from `start` to just before `end`.
-#[derive(Clone, Copy)]
+#[derive(Clone, Copy, PartialEq, Eq, Debug)]
 pub struct SourceRange {
     pub start: u32,
     pub end: u32,
 }
 
-#[derive(Clone, Copy)]
+#[derive(Clone, Copy, PartialEq, Eq, Debug)]
 pub struct PackageInfo {
     // how many entry modules it has; none where it has no export table
     pub entries: Option<usize>,
 }
 
-#[derive(Clone, Copy)]
+#[derive(Clone, Copy, PartialEq, Eq, Debug)]
 pub struct ModuleInfo {
     pub kind: ModuleKind,
     pub package: Option<PackageId>,
@@ -54,20 +54,20 @@ pub struct ModuleInfo {
 }
 
 // A specifier that a module uses, and the module that it aims at.
-#[derive(Clone, Copy)]
+#[derive(Clone, Copy, PartialEq, Eq, Debug)]
 pub struct Dependency {
     pub specifier: NameId,
     pub target: Option<ModuleId>,
 }
 
 // `export * from`, with its specifier.
-#[derive(Clone, Copy)]
+#[derive(Clone, Copy, PartialEq, Eq, Debug)]
 pub struct ReExportAll {
     pub range: SourceRange,
     pub specifier: NameId,
 }
 
-#[derive(Clone, Copy)]
+#[derive(Clone, Copy, PartialEq, Eq, Debug)]
 pub struct SymbolInfo {
     pub parent: Option<SymbolId>,
     pub decls: usize,
@@ -75,13 +75,13 @@ pub struct SymbolInfo {
     pub members: usize,
 }
 
-#[derive(Clone, Copy)]
+#[derive(Clone, Copy, PartialEq, Eq, Debug)]
 pub struct Export {
     pub name: NameId,
     pub symbol: SymbolId,
 }
 
-#[derive(Clone, Copy)]
+#[derive(Clone, Copy, PartialEq, Eq, Default, Debug)]
 pub struct SymbolDeclFlags {
     pub overloads: bool,
     pub body: bool,
@@ -94,21 +94,21 @@ pub struct SymbolDeclFlags {
     pub scope: bool,
 }
 
-// What is asked of another file: all of its namespace, or one name.
-#[derive(Clone, Copy)]
+// What is asked of another file: all of its namespace, or one name. An enum and no Option, as in the published source.
+#[derive(Clone, Copy, PartialEq, Eq, Debug)]
 pub enum FileDepName {
     Star,
     Name(NameId),
 }
 
-#[derive(Clone, Copy)]
+#[derive(Clone, Copy, PartialEq, Eq, Debug)]
 pub struct FileDep {
     pub name: FileDepName,
     pub specifier: NameId,
 }
 
 // What a declaration is. A symbol that cannot be found is none.
-#[derive(Clone, Copy)]
+#[derive(Clone, Copy, PartialEq, Eq, Debug)]
 pub enum SymbolDeclKind {
     // an alias of a symbol
     Target(Option<SymbolId>),
@@ -120,7 +120,7 @@ pub enum SymbolDeclKind {
     Definition(NodeKind, usize),
 }
 
-#[derive(Clone, Copy)]
+#[derive(Clone, Copy, PartialEq, Eq, Debug)]
 pub struct SymbolDecl {
     pub range: SourceRange,
     pub name: Option<NameId>,
@@ -129,20 +129,20 @@ pub struct SymbolDecl {
 }
 
 impl SymbolDecl {
-    // Whether it is a value, and whether it is a type: a definition is what its kind of node is, and any other
-    // declaration is both.
+    // Whether it is a value, and whether it is a type, a pair as the published source has it: a definition is what its
+    // kind of node is, and any other declaration is both.
     pub fn namespaces(&self) -> (bool, bool)
         ensures { result ≡ spec.decl_namespaces self.now.kind }
     {
         match self.kind {
             SymbolDeclKind::Definition(kind, _) => kind.namespaces(),
-            _ => (true, true),
+            _ => BOTH,
         }
     }
 }
 
 // As what an id is referred to.
-#[derive(Clone, Copy)]
+#[derive(Clone, Copy, PartialEq, Eq, Debug)]
 pub enum ReferenceNamespace {
     Value,
     Type,
@@ -150,20 +150,20 @@ pub enum ReferenceNamespace {
 }
 
 impl ReferenceNamespace {
-    // Whether it is as a value, and whether it is as a type.
+    // Whether it is as a value, and whether it is as a type: a pair, as above.
     pub fn namespaces(self) -> (bool, bool)
         ensures { result ≡ spec.referred self }
     {
         match self {
-            ReferenceNamespace::Value => (true, false),
-            ReferenceNamespace::Type => (false, true),
-            ReferenceNamespace::Both => (true, true),
+            ReferenceNamespace::Value => VALUE,
+            ReferenceNamespace::Type => TYPE,
+            ReferenceNamespace::Both => BOTH,
         }
     }
 }
 
 // What a definition refers to.
-#[derive(Clone, Copy)]
+#[derive(Clone, Copy, PartialEq, Eq, Debug)]
 pub enum SymbolNodeDep {
     Id(Option<SymbolId>, ReferenceNamespace),
     QualifiedId(Option<SymbolId>, Path),

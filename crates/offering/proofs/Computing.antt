@@ -10,7 +10,8 @@ use Rattle.host.specs.declared.told.ReExportAll.{ReExportAll}
 use Rattle.resolution.specs.Targets.{target, stands, exports}
 use Rattle.offering.specs.Computed.{holds, some_passes, first_place, leads_to, offers_within, offers?, first_offer}
 use Rattle.offering.specs.ExportedNames.{star_entries}
-use Rattle.offering.specs.Offers.{Leads, Offers, own, passed, Passes, First}
+use Rattle.offering.specs.Offers.{Offers, own, passed, Passes, First}
+use Rattle.resolution.specs.Laws.{Leads}
 use Rattle.offering.proofs.Growth.{settles}
 use Rattle.offering.proofs.Walking.{past_leads}
 

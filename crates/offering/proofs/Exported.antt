@@ -9,7 +9,8 @@ use Rattle.host.specs.Program.{Program}
 use Rattle.host.specs.declared.told.ReExportAll.{ReExportAll}
 use Rattle.resolution.specs.Targets.{target, stands, exports, module_symbol}
 use Rattle.offering.specs.ExportedNames.{contains, has_name, own_names, star_entries, with_star_names, GetExportedNames, circular, collected, StarNames, over, lost, brought}
-use Rattle.offering.specs.Offers.{Leads, Offers, own, passed}
+use Rattle.offering.specs.Offers.{Offers, own, passed}
+use Rattle.resolution.specs.Laws.{Leads}
 use Rattle.offering.proofs.Names.{either, contains_append, contains_kept, contains_last, own_has, stars_kept, stars_there, stars_from}
 
 module _ (p : Program) where

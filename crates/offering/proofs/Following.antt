@@ -1,31 +1,18 @@
 -- Export-alls followed one after another. Assumes nothing.
-use Rattle.std.proofs.Common.{◌≡◌, ℕ, zero, suc, ◌<◌, ◌≤◌, ◌⊎◌, List, [], ◌∷◌, length, get_or, set, is_some, Some, sym, refl, ap, ◌∙◌, subst, inl, inr, arith, length-set}
+use Rattle.std.proofs.Common.{◌≡◌, ℕ, ◌<◌, ◌≤◌, ◌⊎◌, List, length, get_or, set, sym, ap, ◌∙◌, subst, inl, inr, arith, length-set}
 use Rattle.std.proofs.lemmas.List.{get_or-set_same, get_or-set_other}
-use Rattle.std.proofs.lemmas.Bool.{cases_eq, true≢false}
-use Rattle.std.specs.List.{slice_get}
+use Rattle.std.proofs.lemmas.Bool.{cases_eq}
+use Rattle.std.proofs.lemmas.Option.{slice_get_within}
 use Rattle.ids.specs.declared.numbers.ModuleId.{ModuleId}
-use Rattle.host.specs.Lookups.{within, module_at, re_export_all_at}
+use Rattle.host.specs.Lookups.{within, module_at}
 use Rattle.host.specs.Program.{Program}
-use Rattle.host.specs.declared.told.ReExportAll.{ReExportAll}
 use Rattle.offering.specs.Marks.{mark_of, Met, met}
-use Rattle.offering.specs.Offers.{Leads}
+use Rattle.resolution.specs.Laws.{Leads}
 use Rattle.resolution.specs.Targets.{target, stands}
 use Rattle.offering.specs.Walks.{Followed, Visited}
 use Rattle.offering.proofs.Meeting.{met_length, met_mark, met_still, met_itself, met_done, met_undone, done_fewer}
 
 module _ (p : Program) (x : ModuleId) where
-  -- where nothing is led to, nothing changes
-  pub followed_none : (P : ℕ → Type 0) (marks : List ℕ) → ((i : ℕ) (y : ModuleId) → P i → Leads p x i y → ⊥) → Followed p x P marks marks
-  followed_none P marks never = record {
-    long = refl;
-    still_met = λ y h. h;
-    none_done = λ y h. h;
-    all_met = λ i y at leads. absurd (never i y at leads);
-    no_other = λ y within h. inl h;
-    as_many = refl;
-    still_small = λ h. h;
-  }
-
   -- an export-all leads to one module
   pub leads_same : (i : ℕ) (y z : ModuleId) → Leads p x i y → Leads p x i z → y ≡ z
   leads_same i y z a b =
@@ -34,8 +21,8 @@ module _ (p : Program) (x : ModuleId) where
       cc
 
   -- one place is followed
-  pub followed_one : (i : ℕ) (e : ReExportAll) (y : ModuleId) (marks : List ℕ) → re_export_all_at p x i ≡ Some e → target p x e.specifier ≡ Some y → Followed p x (λ j. j ≡ i) marks (met marks (stands p y))
-  followed_one i e y marks there leads = record {
+  pub followed_one : (i : ℕ) (y : ModuleId) (marks : List ℕ) → Leads p x i y → Followed p x (λ j. j ≡ i) marks (met marks (stands p y))
+  followed_one i y marks leads = record {
     long = met_length marks (stands p y);
     still_met = met_still marks (stands p y);
     none_done = met_done marks (stands p y);
@@ -50,11 +37,11 @@ module _ (p : Program) (x : ModuleId) where
       small z h (inr one) = omega (arith, one.0)
 
       same : (j : ℕ) (z : ModuleId) → j ≡ i → Leads p x j z → y ≡ z
-      same j z at other = leads_same i y z (record { re_export_all = e; there = there; leads = leads }) (subst (λ k. Leads p x k z) at other)
+      same j z at other = leads_same i y z leads (subst (λ k. Leads p x k z) at other)
 
       by_mark : (z : ModuleId) → (mark_of (met marks (stands p y)) z ≡ 0 → ⊥) → (mark_of (met marks (stands p y)) z ≡ mark_of marks z) ⊎ ((mark_of (met marks (stands p y)) z ≡ 1) × ((mark_of marks z ≡ 0) × (z.0 ≡ (stands p y).0))) → (mark_of marks z ≡ 0 → ⊥) ⊎ ((j : ℕ) × (w : ModuleId) × Leads p x j w × (z.0 ≡ (stands p w).0))
       by_mark z h (inl e') = inl (λ zero'. h (e' ∙ zero'))
-      by_mark z h (inr one) = inr (i, y, record { re_export_all = e; there = there; leads = leads }, one.1.1)
+      by_mark z h (inr one) = inr (i, y, leads, one.1.1)
 
   -- places followed one after another
   pub followed_both : (P Q R : ℕ → Type 0) {a b c : List ℕ} → ((i : ℕ) → R i → P i ⊎ Q i) → Followed p x P a b → Followed p x Q b c → Followed p x R a c
@@ -90,12 +77,7 @@ module _ (p : Program) (x : ModuleId) where
 
   -- a place that leads somewhere is within the list
   pub leads_within : (i : ℕ) (y : ModuleId) → Leads p x i y → i < length (within (λ m. m.re_export_alls) (module_at p x))
-  leads_within i y leads = nth_within (within (λ m. m.re_export_alls) (module_at p x)) i leads.re_export_all leads.there
-    where
-      nth_within : {X : Type 0} (xs : List X) (j : ℕ) (r : X) → slice_get xs j ≡ Some r → j < length xs
-      nth_within [] j r e = absurd (true≢false (sym (ap is_some e)))
-      nth_within (z ∷ xs) zero r e = omega arith
-      nth_within (z ∷ xs) (suc j) r e = let l = nth_within xs j r e in omega arith
+  leads_within i y leads = slice_get_within (within (λ m. m.re_export_alls) (module_at p x)) i leads.re_export_all leads.there
 
   -- x is done, and then all is followed
   pub visited : (before after : List ℕ) → x.0 < length before → mark_of before x ≡ 1 → Followed p x (λ i. Unit {0}) (set before x.0 2) after → Visited p x before after

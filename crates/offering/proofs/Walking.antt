@@ -9,7 +9,8 @@ use Rattle.ids.specs.declared.numbers.NameId.{NameId}
 use Rattle.host.specs.Lookups.{within, module_at}
 use Rattle.host.specs.Program.{Program}
 use Rattle.offering.specs.Marks.{mark_of, Met, met}
-use Rattle.offering.specs.Offers.{Leads, Offers, own, passed}
+use Rattle.offering.specs.Offers.{Offers, own, passed}
+use Rattle.resolution.specs.Laws.{Leads}
 use Rattle.resolution.specs.Targets.{stands, exports, has_export, module_symbol}
 use Rattle.offering.specs.Walks.{Visited, Walked}
 use Rattle.offering.proofs.Meeting.{met_length, met_mark, met_itself, met_done}

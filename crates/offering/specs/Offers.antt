@@ -2,20 +2,13 @@
 use Rattle.std.specs.Prelude.{◌≡◌, ℕ, ◌<◌, ◌≤◌, Bool, true, List, length, Some, None, Ok, Err, Decides, Option, Result, ◌≢◌}
 use Rattle.ids.specs.declared.numbers.ModuleId.{ModuleId}
 use Rattle.ids.specs.declared.numbers.NameId.{NameId}
-use Rattle.host.specs.Lookups.{re_export_all_at}
 use Rattle.host.specs.Program.{Program}
-use Rattle.host.specs.declared.told.ReExportAll.{ReExportAll}
 use Rattle.offering.specs.ExportedNames.{Standard}
 use Rattle.offering.specs.Marks.{blanked}
 use Rattle.offering.specs.Refusals.{number}
-use Rattle.resolution.specs.Targets.{target, stands, exports}
+use Rattle.resolution.specs.Laws.{Leads}
+use Rattle.resolution.specs.Targets.{stands, exports}
 use Rattle.offering.specs.declared.refusals.Refusal.{Refusal}
-
--- the export-all of x at place i leads to y
-pub record Leads (p : Program) (x : ModuleId) (i : ℕ) (y : ModuleId) : Type 0 where
-  pub re_export_all : ReExportAll
-  pub there : re_export_all_at p x i ≡ Some re_export_all
-  pub leads : target p x re_export_all.specifier ≡ Some y
 
 -- x offers f: it exports f itself, or one of its export-alls passes f on. `default` is never passed on
 pub data Offers (p : Program) (f : NameId) : ModuleId → Type 0 where

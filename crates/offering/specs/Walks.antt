@@ -4,7 +4,8 @@ use Rattle.ids.specs.declared.numbers.ModuleId.{ModuleId}
 use Rattle.ids.specs.declared.numbers.NameId.{NameId}
 use Rattle.host.specs.Program.{Program}
 use Rattle.offering.specs.Marks.{mark_of, Met, undone}
-use Rattle.offering.specs.Offers.{Leads, Offers}
+use Rattle.offering.specs.Offers.{Offers}
+use Rattle.resolution.specs.Laws.{Leads}
 use Rattle.resolution.specs.Targets.{stands, exports}
 
 -- of the export-alls of x, those at places of which P holds were followed: what they lead to has been met, and nothing else has been met

@@ -1,16 +1,15 @@
 // Marks of modules in lent bytes.
-ghost use Rattle.std.specs.Prelude.{◌≡◌, ◌^◌, ◌<◌, length, replicate, MatchOption, ◌≢◌, slice_set};
-ghost use Rattle.offering.specs.Marks as spec;
+ghost use Rattle.std.specs.Prelude.{◌≡◌, ◌^◌, ◌<◌, length, replicate};
 
-use ids::ModuleId;
+// What a walk knows of a module. The caller lends bytes, which hold these numbers.
+#[derive(Clone, Copy)]
+pub(crate) enum Mark {
+    Unmet = 0,
+    Waiting = 1,
+    Done = 2,
+}
 
-const UNMET: u8 = 0;
-
-const WAITING: u8 = 1;
-
-const DONE: u8 = 2;
-
-// The marks of a walk. Whichever way the walk ends, its bytes are blank again.
+// The marks of a search. A guard: the bytes are blank again whichever way the search ends.
 pub(crate) struct Marks<'a>(pub(crate) &'a mut [u8]);
 
 impl Drop for Marks<'_> {
@@ -26,39 +25,5 @@ impl Drop for Marks<'_> {
 pub(crate) fn blank(marks: &mut [u8])
     ensures { marks.new ≡ replicate (length marks.old) 0 }
 {
-    marks.fill(UNMET);
-}
-
-// A module is met. If it was met before, or is past the last, nothing changes.
-pub(crate) fn meet(marks: &mut [u8], module: ModuleId)
-    ensures { marks.new ≡ spec.met marks.old «module» }
-{
-    let place = module.0 as usize;
-    if place >= marks.len() {
-        return;
-    }
-    if marks[place] == UNMET {
-        marks[place] = WAITING;
-    }
-}
-
-// A module that was met and waits.
-pub(crate) fn waiting(marks: &[u8]) -> Option<ModuleId>
-    requires { length marks.now < 2 ^ 32 }
-    ensures { MatchOption result ((x : ModuleId) → x.0 < length marks.now → spec.mark_of marks.now x ≢ 1) (λ x. (x.0 < length marks.now) × (spec.mark_of marks.now x ≡ 1)) }
-{
-    for (place, mark) in marks.iter().enumerate() {
-        if *mark == WAITING {
-            return Some(ModuleId(place as u32));
-        }
-    }
-    None
-}
-
-// A module that waited is done.
-pub(crate) fn finish(marks: &mut [u8], module: ModuleId)
-    requires { «module».0 < length marks.old }
-    ensures { marks.new ≡ slice_set marks.old «module».0 2 }
-{
-    marks[module.0 as usize] = DONE;
+    marks.fill(Mark::Unmet as u8);
 }

@@ -1,10 +1,10 @@
 -- One step of a way, and of the search for the redirect that it takes. Assumes nothing.
-use Rattle.std.specs.Prelude.{◌≡◌, ℕ, zero, suc, ◌+◌, ◌<◌, ◌≤◌, Bool, true, false, cond, ◌&&◌, List, [], ◌∷◌, ◌++◌, length, get_or, drop, Some, None, Decides, ◌==◌, nat_eq, slice_index_or, refl}
-use Rattle.std.proofs.Common.{sym, ap, ◌∙◌, arith}
-use Rattle.std.proofs.lemmas.List.{at_drop_more, at_drop_all}
+use Rattle.std.specs.Prelude.{◌≡◌, ℕ, zero, suc, ◌<◌, Bool, true, false, cond, ◌&&◌, List, [], ◌∷◌, ◌++◌, length, Some, None, Option, Decides, ◌==◌, nat_eq, refl}
+use Rattle.std.proofs.Common.{Bor, sym, ap, ◌∙◌, arith}
 use Rattle.std.proofs.lemmas.Bool.{eqb-true, eqb-false, true≢false}
 use Rattle.std.proofs.lemmas.Bool.Decides.{Decides-by_or, Decides-eqb, same_from_decides}
-use Rattle.std.specs.List.{HoldsAt, IsAnyAnswer}
+use Rattle.std.specs.Option.{option_map}
+use Rattle.std.specs.List.{HoldsAt, IsAnyAnswer, find}
 use Rattle.ids.specs.declared.numbers.ModuleId.{ModuleId}
 use Rattle.redirects.specs.Following.{stays, usable, next, seen_before, walk}
 use Rattle.redirects.specs.Steps.{onward, walk_more}
@@ -21,18 +21,21 @@ next_usable n r rs m = by_case (stays n r) (r.from.0 == m.0) refl
     by_case false true is = refl
     by_case false false is = refl
 
-module _ (n : ℕ) (rs : List Redirect) (m : ModuleId) (i : ℕ) (d : Redirect) where
-  next_more : i < length rs → next (usable n (drop i rs)) m ≡ cond ((get_or rs i d).from.0 == m.0 && stays n (slice_index_or rs i d)) (Some (get_or rs i d).to) (next (usable n (drop (i + 1) rs)) m)
-  next_more h = at_drop_more (λ l. next (usable n l) m) rs i d h ∙ next_usable n (slice_index_or rs i d) (drop (i + 1) rs) m
+-- the redirect that `find` answers is the next one
+next_as_found : (n : ℕ) (rs : List Redirect) (m : ModuleId) → next (usable n rs) m ≡ option_map (λ r. r.to) (find (λ r. r.from.0 == m.0 && stays n r) rs)
+next_as_found n [] m = refl
+next_as_found n (r ∷ rs) m = next_usable n r rs m ∙ by_case (r.from.0 == m.0 && stays n r) (next_as_found n rs m)
+  where
+    by_case : (b : Bool) → next (usable n rs) m ≡ option_map (λ r. r.to) (find (λ r. r.from.0 == m.0 && stays n r) rs) → cond b (Some r.to) (next (usable n rs) m) ≡ option_map (λ r. r.to) (cond b (Some r) (find (λ r. r.from.0 == m.0 && stays n r) rs))
+    by_case true rest = refl
+    by_case false rest = rest
 
-  pub next_taken : i < length rs → ((get_or rs i d).from.0 == m.0 && stays n (slice_index_or rs i d)) ≡ true → next (usable n (drop i rs)) m ≡ Some (get_or rs i d).to
-  next_taken h t = next_more h ∙ ap (λ b. cond b (Some (get_or rs i d).to) (next (usable n (drop (i + 1) rs)) m)) t
-
-  pub next_left : i < length rs → ((get_or rs i d).from.0 == m.0 && stays n (slice_index_or rs i d)) ≡ false → next (usable n (drop i rs)) m ≡ next (usable n (drop (i + 1) rs)) m
-  next_left h t = next_more h ∙ ap (λ b. cond b (Some (get_or rs i d).to) (next (usable n (drop (i + 1) rs)) m)) t
-
-  pub next_all : length rs ≤ i → next (usable n (drop i rs)) m ≡ None
-  next_all h = at_drop_all (λ l. next (usable n l) m) rs i h
+pub next_found : (n : ℕ) (rs : List Redirect) (m : ModuleId) (o : Option (Bor Redirect)) (t : Option ModuleId) → option_map (λ x. x.now) o ≡ find (λ r. r.from.0 == m.0 && stays n r) rs → t ≡ option_map (λ x. x.now.to) o → t ≡ next (usable n rs) m
+next_found n rs m o t is to = to ∙ by_case o ∙ ap (option_map (λ r. r.to)) is ∙ sym (next_as_found n rs m)
+  where
+    by_case : (o : Option (Bor Redirect)) → option_map (λ x. x.now.to) o ≡ option_map (λ r. r.to) (option_map (λ x. x.now) o)
+    by_case None = refl
+    by_case (Some x) = refl
 
 -- whether a module has been seen, as `contains` answers it
 

@@ -1,8 +1,8 @@
 -- Which redirects a layer may have, and why others are refused. Assumes nothing.
 use Rattle.std.specs.Prelude.{◌≡◌, ℕ, ◌<◌, ◌≤◌, Bool, cond, ◌&&◌, List, map, length, Some, None, Option, nat_le, nat_lt}
-use Rattle.std.specs.List.{AllByRecursion}
+use Rattle.std.specs.List.{AllByRecursion, list_all}
 use Rattle.host.specs.Rules.{Distinct}
-use Rattle.host.specs.Tests.{all, distinct}
+use Rattle.host.specs.Tests.{distinct}
 use Rattle.redirects.specs.declared.redirect.Redirect.{Redirect}
 use Rattle.redirects.specs.declared.refusals.Refusal.{Refusal}
 use Rattle.redirects.specs.declared.refusals.Refusal.TheVariants.{PastTheLast, TwoStartAlike, TooMany}
@@ -49,8 +49,8 @@ inside modules r = nat_lt r.from.0 modules && nat_lt r.to.0 modules
 
 -- the refusal that redirects meet, if any
 abbrev pub refusal : ℕ → List Redirect → Option Refusal
-refusal modules rs = cond (all (inside modules) rs) (cond (distinct (starts rs)) (cond (nat_le (length rs) redirect_limit) None (Some TooMany)) (Some TwoStartAlike)) (Some PastTheLast)
+refusal modules rs = cond (list_all (inside modules) rs) (cond (distinct (starts rs)) (cond (nat_le (length rs) redirect_limit) None (Some TooMany)) (Some TwoStartAlike)) (Some PastTheLast)
 
 -- the number that redirects are refused with, if they are: 1 is looked at before 9
 abbrev pub refused_with : ℕ → List Redirect → Option ℕ
-refused_with modules rs = cond (all (inside modules) rs && distinct (starts rs)) (cond (nat_le (length rs) redirect_limit) None (Some 9)) (Some 1)
+refused_with modules rs = cond (list_all (inside modules) rs && distinct (starts rs)) (cond (nat_le (length rs) redirect_limit) None (Some 9)) (Some 1)

@@ -1,4 +1,5 @@
-// Following redirects from module to module.
+// Following redirects from module to module. Redirects and the number of modules are passed side by side, here and where
+// they are refused: a struct of the two would only lengthen each clause.
 ghost use Rattle.std.specs.Prelude.{◌≡◌};
 ghost use Rattle.redirects.specs.Following as spec;
 
@@ -13,12 +14,10 @@ const SEEN_LIMIT: usize = 10;
 fn next(redirects: &[Redirect], modules: usize, from: ModuleId) -> Option<ModuleId>
     ensures { result ≡ spec.next (spec.usable modules redirects.now) from }
 {
-    for redirect in redirects {
-        if redirect.from == from && (redirect.to.0 as usize) < modules {
-            return Some(redirect.to);
-        }
-    }
-    None
+    redirects
+        .iter()
+        .find(|redirect| redirect.from == from && (redirect.to.0 as usize) < modules)
+        .map(|redirect| redirect.to)
 }
 
 // Where a module is sent in the end by the redirects that stay below `modules`. A module seen before is not entered
@@ -26,6 +25,8 @@ fn next(redirects: &[Redirect], modules: usize, from: ModuleId) -> Option<Module
 pub(crate) fn follow(redirects: &[Redirect], modules: usize, start: ModuleId) -> ModuleId
     ensures { result ≡ spec.followed (spec.usable modules redirects.now) start }
 {
+    // an array, of which `count` are filled: a `Vec` would ask for memory, which a host's answers may not, and the standard
+    // library has no list of fixed size
     let mut seen = [start; SEEN_LIMIT];
     let mut end = start;
     for count in 1..SEEN_LIMIT {

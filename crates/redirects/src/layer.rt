@@ -10,7 +10,7 @@ ghost use Rattle.redirects.specs.Kept.{redirected_valid};
 
 use crate::following::follow;
 use crate::redirect::Redirect;
-use crate::refusals::{Refusal, refusal_of};
+use crate::refusals::{Refusal, admit};
 use host::{
     Dependency, Export, Host, ModuleInfo, PackageInfo, ReExportAll, SymbolDecl, SymbolInfo,
     SymbolNodeDep,
@@ -36,9 +36,9 @@ impl<H: Host> Redirected<H> {
         ensures none_passed_over { OnOk result (following.usable (length (H.program host).modules) redirects.items ≡ redirects.items) }
         ensures examples { Examples }
     {
-        match refusal_of(&redirects, host.modules()) {
-            Some(refusal) => Err((refusal, host)),
-            None => Ok(Redirected { host, redirects }),
+        match admit(&redirects, host.modules()) {
+            Ok(()) => Ok(Redirected { host, redirects }),
+            Err(refusal) => Err((refusal, host)),
         }
     }
 
@@ -55,10 +55,7 @@ impl<H: Host> Redirected<H> {
     fn end_of(&self, start: Option<ModuleId>) -> Option<ModuleId>
         ensures { result ≡ option_map (spec.sends self.now.redirects.items (H.program self.now.host)) start }
     {
-        match start {
-            Some(module) => Some(self.end(module)),
-            None => None,
-        }
+        start.map(|module| self.end(module))
     }
 }
 

@@ -1,10 +1,12 @@
-// Which redirects a layer may have, and why others are refused.
-ghost use Rattle.std.specs.Prelude.{◌≡◌, not};
-ghost use Rattle.host.specs.Tests.{all, among, distinct};
+// Which redirects a layer may have, and why others are refused: refusals of its own, so that a layer can answer nothing
+// else.
+ghost use Rattle.std.specs.Prelude.{◌≡◌, MatchResult};
+ghost use Rattle.std.specs.List.{list_all};
+ghost use Rattle.host.specs.Tests.{distinct};
 ghost use Rattle.redirects.specs.Refusals as spec;
 
 use crate::redirect::Redirect;
-use ids::ModuleId;
+use host::distinct;
 
 // The most redirects of a layer. `redirect_limit` of specs/Refusals.antt is the same number.
 const REDIRECT_LIMIT: usize = 256;
@@ -24,6 +26,7 @@ impl Refusal {
     pub fn number(self) -> u8
         ensures { result ≡ spec.number self }
     {
+        // two refusals have one number, which discriminants may not
         match self {
             Refusal::PastTheLast => 1,
             Refusal::TwoStartAlike => 1,
@@ -32,56 +35,33 @@ impl Refusal {
     }
 }
 
-// Why a layer over so many modules may not have these redirects, if it may not.
-pub(crate) fn refusal_of(redirects: &[Redirect], modules: usize) -> Option<Refusal>
-    ensures { result ≡ spec.refusal modules redirects.now }
+// Whether a layer over so many modules may have these redirects, or why not.
+pub(crate) fn admit(redirects: &[Redirect], modules: usize) -> Result<(), Refusal>
+    ensures { MatchResult result (λ _. spec.refusal modules redirects.now ≡ None) (λ e. spec.refusal modules redirects.now ≡ Some e) }
 {
     if !all_inside(redirects, modules) {
-        return Some(Refusal::PastTheLast);
+        return Err(Refusal::PastTheLast);
     }
     if !all_apart(redirects) {
-        return Some(Refusal::TwoStartAlike);
+        return Err(Refusal::TwoStartAlike);
     }
     if redirects.len() > REDIRECT_LIMIT {
-        return Some(Refusal::TooMany);
+        return Err(Refusal::TooMany);
     }
-    None
+    Ok(())
 }
 
 // Whether each redirect starts and ends at one of so many modules.
 fn all_inside(redirects: &[Redirect], modules: usize) -> bool
-    ensures { result ≡ all (spec.inside modules) redirects.now }
+    ensures { result ≡ list_all (spec.inside modules) redirects.now }
 {
-    for redirect in redirects {
-        if redirect.from.0 as usize >= modules || redirect.to.0 as usize >= modules {
-            return false;
-        }
-    }
-    true
+    redirects.iter().all(|redirect| (redirect.from.0 as usize) < modules
+        && (redirect.to.0 as usize) < modules)
 }
 
 // Whether no two redirects start alike.
 fn all_apart(redirects: &[Redirect]) -> bool
     ensures { result ≡ distinct (spec.starts redirects.now) }
 {
-    let mut rest = redirects;
-    while let Some((first, others)) = rest.split_first() {
-        if one_starts_at(others, first.from) {
-            return false;
-        }
-        rest = others;
-    }
-    true
-}
-
-// Whether a redirect starts at a module.
-fn one_starts_at(redirects: &[Redirect], from: ModuleId) -> bool
-    ensures { result ≡ among from.0 (spec.starts redirects.now) }
-{
-    for redirect in redirects {
-        if redirect.from == from {
-            return true;
-        }
-    }
-    false
+    distinct(redirects, |redirect| redirect.from.0)
 }

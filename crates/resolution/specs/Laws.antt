@@ -2,11 +2,12 @@
 use Rattle.std.specs.Prelude.{◌≡◌, ℕ, zero, suc, ◌≤◌, true, false, ◌⊎◌, Some, None, Option}
 use Rattle.ids.specs.declared.numbers.ModuleId.{ModuleId}
 use Rattle.ids.specs.declared.numbers.NameId.{NameId}
-use Rattle.host.specs.Lookups.{module_at, dependency_at, export_at}
+use Rattle.host.specs.Lookups.{module_at, dependency_at, re_export_all_at, export_at}
 use Rattle.host.specs.Program.{Program}
 use Rattle.host.specs.declared.told.Dependency.{Dependency}
 use Rattle.host.specs.declared.told.Export.{Export}
-use Rattle.resolution.specs.Targets.{kind_of, types_of, is_missing, is_inside, types_steps, module_symbol}
+use Rattle.host.specs.declared.told.ReExportAll.{ReExportAll}
+use Rattle.resolution.specs.Targets.{kind_of, types_of, is_missing, is_inside, target, types_steps, module_symbol}
 
 module _ (p : Program) where
   -- m has a dependency with this specifier, and it aims so
@@ -34,6 +35,12 @@ module _ (p : Program) where
     -- its types module is missing
     untyped : {c t : ModuleId} → Aims m n (Some c) → IsThere c → types_of (module_at p c) ≡ Some t → IsMissing t → TargetOf m n (Some c)
     typed : {c t : ModuleId} → Aims m n (Some c) → IsThere c → types_of (module_at p c) ≡ Some t → IsThere t → TargetOf m n (Some t)
+
+  -- the export-all of x at place i leads to y
+  pub record Leads (x : ModuleId) (i : ℕ) (y : ModuleId) : Type 0 where
+    pub re_export_all : ReExportAll
+    pub there : re_export_all_at p x i ≡ Some re_export_all
+    pub leads : target p x re_export_all.specifier ≡ Some y
 
   -- a step from a module to its types module, which is neither missing nor external
   pub record Steps (m t : ModuleId) : Type 0 where

@@ -1,9 +1,10 @@
 -- Where a specifier leads, and which module stands for another. Assumes nothing.
 use Rattle.std.specs.Prelude.{ℕ, zero, suc, Bool, true, false, cond, ◌||◌, List, [], ◌∷◌, Some, None, Option, ◌==◌}
+use Rattle.std.specs.Option.{option_and_then}
 use Rattle.ids.specs.declared.numbers.ModuleId.{ModuleId}
 use Rattle.ids.specs.declared.numbers.NameId.{NameId}
 use Rattle.ids.specs.declared.numbers.SymbolId.{SymbolId}
-use Rattle.host.specs.Lookups.{within, module_at, symbol_at}
+use Rattle.host.specs.Lookups.{within, module_at, re_export_all_at, symbol_at}
 use Rattle.host.specs.Program.{Module, Program}
 use Rattle.host.specs.declared.told.Dependency.{Dependency}
 use Rattle.host.specs.declared.told.Export.{Export}
@@ -59,6 +60,10 @@ module _ (p : Program) where
   -- the target of a specifier that a module uses
   abbrev pub target : ModuleId → NameId → Option ModuleId
   target m n = led (aim (within (λ x. x.dependencies) (module_at p m)) n)
+
+  -- the target of the export-all at a place of a module
+  abbrev pub re_export_target : ModuleId → ℕ → Option ModuleId
+  re_export_target m i = option_and_then (λ e. target m e.specifier) (re_export_all_at p m i)
 
   -- the module that has the types of m, unless it is missing or external
   abbrev pub entered : Option ModuleId → Option ModuleId

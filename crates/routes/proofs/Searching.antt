@@ -1,17 +1,20 @@
 -- A search goes on, and what it means that it ends. Assumes nothing.
 use Rattle.std.proofs.Common.{◌≡◌, ℕ, zero, suc, ◌+◌, ◌<◌, ◌≤◌, true, false, eqb, leb, ◌⊎◌, List, [], ◌∷◌, ◌++◌, length, is_some, Some, sym, refl, ap, ◌∙◌, subst, inl, inr, append_assoc, append-nil, arith}
-use Rattle.std.proofs.lemmas.Bool.{eqb-true, eq-eqb, leb-true, le-leb, or_cases, or_left, or_right, cases_lt, true≢false, false≢true}
+use Rattle.std.proofs.lemmas.Bool.{cases_Bool, eqb-true, eq-eqb, leb-true, le-leb, or_cases, or_left, or_right, cases_lt, true≢false, false≢true}
+use Rattle.std.proofs.lemmas.List.{map_push}
+use Rattle.std.proofs.lemmas.Option.{slice_get_within}
 use Rattle.std.specs.List.{AllByRecursion, slice_get}
 use Rattle.ids.specs.declared.numbers.ModuleId.{ModuleId}
 use Rattle.ids.specs.declared.numbers.NameId.{NameId}
 use Rattle.host.specs.Program.{Program}
 use Rattle.resolution.specs.Targets.{stands, exports}
 use Rattle.offering.proofs.Ending.{missing, missing_less}
-use Rattle.offering.proofs.Names.{either, same_module}
+use Rattle.offering.proofs.Names.{same_module}
 use Rattle.offering.proofs.Walking.{past_exports, past_leads}
 use Rattle.offering.specs.ExportedNames.{contains}
-use Rattle.offering.specs.Offers.{Leads, Offers, own, passed}
-use Rattle.routes.proofs.Spreads.{modules_append, known_more}
+use Rattle.offering.specs.Offers.{Offers, own, passed}
+use Rattle.resolution.specs.Laws.{Leads}
+use Rattle.routes.proofs.Spreads.{known_more}
 use Rattle.routes.specs.Reach.{modules_in, known, Led, Fresh, Spread}
 use Rattle.routes.specs.Routes.{Route, start_of, Trail, here, on, Searching}
 use Rattle.routes.specs.declared.reached.Reached.{Reached}
@@ -35,11 +38,6 @@ nth_either {X = X} P [] new k x all h = inr (omega arith, at new k all h)
 nth_either P (y ∷ xs) new zero x all h = inl h
 nth_either P (y ∷ xs) new (suc k) x all h = elim (nth_either P xs new k x all h) [ inl old ↦ inl old | inr last ↦ inr (omega (arith, last.0), last.1) ]
 
-pub nth_inside : {X : Type 0} (xs : List X) (k : ℕ) (x : X) → slice_get xs k ≡ Some x → k < length xs
-nth_inside [] k x h = absurd (true≢false (sym (ap is_some h)))
-nth_inside (y ∷ xs) zero x h = omega arith
-nth_inside (y ∷ xs) (suc k) x h = let l = nth_inside xs k x h in omega arith
-
 nth_same : {X : Type 0} (xs : List X) (k : ℕ) (x y : X) → slice_get xs k ≡ Some x → slice_get xs k ≡ Some y → x ≡ y
 nth_same xs k x y a b = cc
 
@@ -59,25 +57,17 @@ fresh_fewer p rs (r ∷ new) fresh =
     let n = length p.modules in
     let rest = fresh_fewer p (rs ++ r ∷ []) new fresh.1 in
     let e = ap (λ l. missing n (modules_in l)) (append_assoc rs (r ∷ []) new) in
-    let f = ap (missing n) (modules_append rs r) in
+    let f = ap (missing n) (map_push (λ q. q.«module») rs r) in
     let less = missing_less n (modules_in rs) r.«module» inside apart in
     omega (arith, rest, e, f, less)
   where
     apart : contains (modules_in rs) r.«module» ≡ false
-    apart = elim (either (contains (modules_in rs) r.«module»)) [ inl t ↦ absurd (true≢false (sym (or_right (leb (length p.modules) r.«module».0) (contains (modules_in rs) r.«module») t) ∙ fresh.0)) | inr f ↦ f ]
+    apart = elim (cases_Bool (contains (modules_in rs) r.«module»)) [ inl t ↦ absurd (true≢false (sym (or_right (leb (length p.modules) r.«module».0) (contains (modules_in rs) r.«module») t) ∙ fresh.0)) | inr f ↦ f ]
 
     inside : r.«module».0 < length p.modules
     inside = elim (cases_lt r.«module».0 (length p.modules)) [ inl l ↦ l | inr past ↦ absurd (true≢false (sym (or_left (leb (length p.modules) r.«module».0) (contains (modules_in rs) r.«module») (le-leb (length p.modules) r.«module».0 past)) ∙ fresh.0)) ]
 
 module _ (p : Program) (f : NameId) (start : ModuleId) where
-  pub search_begins : Searching p f start (start_of start ∷ []) 0
-  search_begins = record {
-    first = refl;
-    down = λ k r above there. absurd (omega (arith, above, nth_inside (start_of start ∷ []) k r there));
-    linked = λ k r above there. absurd (omega (arith, above, nth_inside (start_of start ∷ []) k r there));
-    looked = λ k r before there. absurd (omega arith);
-  }
-
   pub search_goes_on : (rs after : List Reached) (turn : ℕ) (q : Reached) → Searching p f start rs turn → slice_get rs turn ≡ Some q → exports p q.«module» f ≡ false → Spread p q.«module» turn (λ i. Unit {0}) rs after → Searching p f start after (turn + 1)
   search_goes_on rs after turn q s at lacks spread = subst (λ l. Searching p f start l (turn + 1)) (sym spread.grown) record {
     first = nth_kept rs spread.new 0 (start_of start) s.first;
@@ -87,7 +77,7 @@ module _ (p : Program) (f : NameId) (start : ModuleId) where
   }
     where
       in_turn : turn < length rs
-      in_turn = nth_inside rs turn q at
+      in_turn = slice_get_within rs turn q at
 
       by_down : (k : ℕ) (r : Reached) → 0 < k → (slice_get rs k ≡ Some r) ⊎ ((length rs ≤ k) × Led p q.«module» turn r) → r.from < k
       by_down k r above (inl old) = s.down k r above old
@@ -130,7 +120,7 @@ module _ (p : Program) (f : NameId) (start : ModuleId) where
           by_known (inl past) = true≢false (sym e ∙ past_exports p f y (leb-true (length p.modules) y.0 past))
           by_known (inr there) =
               let r = reached_at rs y there in
-              let l = s.looked r.0 r.1 (omega (arith, over, nth_inside rs r.0 r.1 r.2)) r.2 in
+              let l = s.looked r.0 r.1 (omega (arith, over, slice_get_within rs r.0 r.1 r.2)) r.2 in
               true≢false (sym e ∙ sym (ap (λ u. exports p u f) r.3) ∙ l.0)
       none y h (passed {y = z} {i = i} _ leads o') = by_known (λ k. none (stands p z) k o') (or_cases (leb (length p.modules) y.0) (contains (modules_in rs) y) h)
         where
@@ -138,7 +128,7 @@ module _ (p : Program) (f : NameId) (start : ModuleId) where
           by_known below (inl past) = past_leads p y z i (leb-true (length p.modules) y.0 past) leads
           by_known below (inr there) =
               let r = reached_at rs y there in
-              let l = s.looked r.0 r.1 (omega (arith, over, nth_inside rs r.0 r.1 r.2)) r.2 in
+              let l = s.looked r.0 r.1 (omega (arith, over, slice_get_within rs r.0 r.1 r.2)) r.2 in
               below (l.1 i z (subst (λ u. Leads p u i z) (sym r.3) leads))
 
   -- the steps back from one that exports f are a route

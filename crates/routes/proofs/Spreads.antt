@@ -1,33 +1,34 @@
 -- Export-alls followed one after another. Assumes nothing.
-use Rattle.std.proofs.Common.{◌≡◌, ℕ, Bool, true, false, cond, leb, ◌⊎◌, List, [], ◌∷◌, ◌++◌, length, Some, sym, refl, ap, ◌∙◌, subst, inl, inr, append_assoc, append-nil}
+use Rattle.std.proofs.Common.{◌≡◌, ◌==◌, ◌||◌, ℕ, Bool, true, false, cond, leb, ◌⊎◌, List, [], ◌∷◌, ◌++◌, length, sym, refl, ap, ◌∙◌, subst, inl, inr, append_assoc, append-nil}
 use Rattle.std.proofs.ByRecursion.{All-append}
+use Rattle.std.proofs.lemmas.List.{map_push}
+use Rattle.std.specs.List.{list_any}
 use Rattle.std.proofs.lemmas.Bool.{or_cases, or_left, or_right}
 use Rattle.ids.specs.declared.numbers.ModuleId.{ModuleId}
 use Rattle.host.specs.Program.{Program}
-use Rattle.host.specs.declared.told.ReExportAll.{ReExportAll}
-use Rattle.host.specs.Lookups.{re_export_all_at}
-use Rattle.resolution.specs.Targets.{target, stands}
+use Rattle.resolution.specs.Targets.{stands}
 use Rattle.offering.proofs.Following.{leads_same}
 use Rattle.offering.proofs.Names.{contains_kept, contains_last}
 use Rattle.offering.specs.ExportedNames.{contains}
-use Rattle.offering.specs.Offers.{Leads}
+use Rattle.resolution.specs.Laws.{Leads}
 use Rattle.routes.specs.Reach.{modules_in, known, Added, Led, Fresh, Spread}
 use Rattle.routes.specs.declared.reached.Reached.{Reached}
 
-pub modules_append : (rs : List Reached) (r : Reached) → modules_in (rs ++ r ∷ []) ≡ modules_in rs ++ r.«module» ∷ []
-modules_append [] r = refl
-modules_append (q ∷ rs) r = ap (λ l. q.«module» ∷ l) (modules_append rs r)
+-- the test of each element that was reached is the test of its module
+pub contains_any : (rs : List Reached) (m : ModuleId) → list_any (λ r. r.«module».0 == m.0) rs ≡ contains (modules_in rs) m
+contains_any [] m = refl
+contains_any (r ∷ rs) m = ap (λ b. r.«module».0 == m.0 || b) (contains_any rs m)
 
 module _ (p : Program) where
   -- one more leaves known what was, and is known
   known_kept : (rs : List Reached) (r : Reached) (y : ModuleId) → known p rs y ≡ true → known p (rs ++ r ∷ []) y ≡ true
   known_kept rs r y h = elim (or_cases (leb (length p.modules) y.0) (contains (modules_in rs) y) h) [
     | inl past ↦ or_left (leb (length p.modules) y.0) (contains (modules_in (rs ++ r ∷ [])) y) past
-    | inr there ↦ or_right (leb (length p.modules) y.0) (contains (modules_in (rs ++ r ∷ [])) y) (ap (λ l. contains l y) (modules_append rs r) ∙ contains_kept (modules_in rs) r.«module» y there)
+    | inr there ↦ or_right (leb (length p.modules) y.0) (contains (modules_in (rs ++ r ∷ [])) y) (ap (λ l. contains l y) (map_push (λ q. q.«module») rs r) ∙ contains_kept (modules_in rs) r.«module» y there)
   ]
 
   known_last : (rs : List Reached) (r : Reached) → known p (rs ++ r ∷ []) r.«module» ≡ true
-  known_last rs r = or_right (leb (length p.modules) r.«module».0) (contains (modules_in (rs ++ r ∷ [])) r.«module») (ap (λ l. contains l r.«module») (modules_append rs r) ∙ contains_last (modules_in rs) r.«module»)
+  known_last rs r = or_right (leb (length p.modules) r.«module».0) (contains (modules_in (rs ++ r ∷ [])) r.«module») (ap (λ l. contains l r.«module») (map_push (λ q. q.«module») rs r) ∙ contains_last (modules_in rs) r.«module»)
 
   pub known_more : (rs new : List Reached) (y : ModuleId) → known p rs y ≡ true → known p (rs ++ new) y ≡ true
   known_more rs [] y h = ap (λ l. known p l y) (append-nil rs) ∙ h
@@ -38,17 +39,10 @@ module _ (p : Program) where
   fresh_append rs (r ∷ new) more a b = (a.0, fresh_append (rs ++ r ∷ []) new more a.1 (subst (λ l. Fresh p l more) (sym (append_assoc rs (r ∷ []) new)) b))
 
   module _ (x : ModuleId) (from : ℕ) where
-    -- where nothing is led to, nothing changes
-    pub spread_none : (P : ℕ → Type 0) (rs : List Reached) → ((i : ℕ) (z : ModuleId) → P i → Leads p x i z → ⊥) → Spread p x from P rs rs
-    spread_none P rs never = record { new = []; grown = sym (append-nil rs); led = tt; fresh = tt; all_known = λ i z at leads. absurd (never i z at leads) }
-
     -- one place is followed
-    pub spread_one : (i : ℕ) (e : ReExportAll) (z : ModuleId) (r : Reached) (before after : List Reached) → re_export_all_at p x i ≡ Some e → target p x e.specifier ≡ Some z → r.«module» ≡ stands p z → r.from ≡ from → r.place ≡ i → Added p r before after → Spread p x from (λ j. j ≡ i) before after
-    spread_one i e z r before after there leads is-module is-from is-place added = by_known (known p before r.«module») refl
+    pub spread_one : (i : ℕ) (z : ModuleId) (r : Reached) (before after : List Reached) → Leads p x i z → r.«module» ≡ stands p z → r.from ≡ from → r.place ≡ i → Added p r before after → Spread p x from (λ j. j ≡ i) before after
+    spread_one i z r before after leading is-module is-from is-place added = by_known (known p before r.«module») refl
       where
-        leading : Leads p x i z
-        leading = record { re_export_all = e; there = there; leads = leads }
-
         led : Led p x from r
         led = (is-from, (z, subst (λ k. Leads p x k z) (sym is-place) leading, is-module))
 

@@ -5,7 +5,7 @@ use Rattle.ids.specs.declared.numbers.ModuleId.{ModuleId}
 use Rattle.host.specs.Program.{Program}
 use Rattle.resolution.specs.Targets.{stands}
 use Rattle.offering.specs.ExportedNames.{contains}
-use Rattle.offering.specs.Offers.{Leads}
+use Rattle.resolution.specs.Laws.{Leads}
 use Rattle.routes.specs.declared.reached.Reached.{Reached}
 
 abbrev pub modules_in : List Reached → List ModuleId

@@ -5,7 +5,7 @@ use Rattle.ids.specs.declared.numbers.ModuleId.{ModuleId}
 use Rattle.ids.specs.declared.numbers.NameId.{NameId}
 use Rattle.host.specs.Program.{Program}
 use Rattle.resolution.specs.Targets.{stands, exports}
-use Rattle.offering.specs.Offers.{Leads}
+use Rattle.resolution.specs.Laws.{Leads}
 use Rattle.routes.specs.Reach.{known}
 use Rattle.routes.specs.declared.reached.Reached.{Reached}
 use Rattle.routes.specs.declared.steps.Step.{Step}

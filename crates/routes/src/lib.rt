@@ -3,7 +3,7 @@
 
 mod reached;
 mod routes;
-mod spreading;
+mod searches;
 mod steps;
 mod trails;
 

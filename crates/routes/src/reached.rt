@@ -6,7 +6,7 @@ ghost use Rattle.routes.specs.Reach.{modules_in};
 use ids::ModuleId;
 
 // A module, and how the search came there: by the export-all at a place of another one, which is named by its
-// number in the list of those that were reached. The start names itself.
+// number in the list of those that were reached. The start has the number 0 and names itself, so no Option is wanted.
 #[derive(Clone, Copy)]
 pub(crate) struct Reached {
     pub(crate) module: ModuleId,
@@ -18,10 +18,5 @@ pub(crate) struct Reached {
 pub(crate) fn holds(reached: &[Reached], module: ModuleId) -> bool
     ensures { result ≡ contains (modules_in reached.now) «module» }
 {
-    for one in reached {
-        if one.module == module {
-            return true;
-        }
-    }
-    false
+    reached.iter().any(|one| one.module == module)
 }

@@ -14,6 +14,7 @@ pub(crate) fn trail(heap: Global, reached: &[Reached], end: usize) -> Result<Vec
 {
     let mut steps = Vec::new(heap);
     let mut at = end;
+    // By the links from number to number, and not along the list: no iterator goes so. The start has the number 0.
     while at > 0 {
         let one = reached[at];
         let step = Step {

@@ -1,10 +1,8 @@
 -- Lists of outcomes that go into a sink part by part. Assumes nothing.
-use Rattle.std.proofs.Common.{◌≡◌, ℕ, ◌+◌, ◌≤◌, Bool, true, false, List, [], ◌∷◌, ◌++◌, length, drop, is_ok, is_err, Some, Ok, Err, Result, sym, refl, ap, ◌∙◌}
-use Rattle.std.proofs.lemmas.List.{drop_all}
-use Rattle.std.specs.List.{slice_get}
+use Rattle.std.proofs.Common.{◌≡◌, ℕ, ◌+◌, Bool, true, false, List, [], ◌∷◌, ◌++◌, drop, is_ok, is_err, Some, Ok, Err, Result, sym, refl, ap, ◌∙◌}
+use Rattle.std.specs.List.{slice_get, flat_map}
 use Rattle.resolution.proofs.Places.{drop_nth}
 use Rattle.rules.specs.Feeding.{onward, feed}
-use Rattle.rules.specs.Lists.{each}
 
 -- a result that is an error is not an answer
 pub failed : {X Y : Type 0} (r : Result X Y) → is_err r ≡ true → is_ok r ≡ false
@@ -31,11 +29,8 @@ module _ {S O : Type 0} (after : S → O → S × Bool) where
   -- the same of the elements of a list, one after another
 
   module _ {X : Type 0} (f : X → List O) (xs : List X) where
-    pub each_stops : (s u : S) (i : ℕ) (x : X) → slice_get xs i ≡ Some x → (u, false) ≡ feed after s (f x) → (u, false) ≡ feed after s (each f (drop i xs))
-    each_stops s u i x at h = feed_stops s u (f x) (each f (drop (i + 1) xs)) h ∙ sym (ap (λ l. feed after s (each f l)) (drop_nth xs i x at))
+    pub each_stops : (s u : S) (i : ℕ) (x : X) → slice_get xs i ≡ Some x → (u, false) ≡ feed after s (f x) → (u, false) ≡ feed after s (flat_map f (drop i xs))
+    each_stops s u i x at h = feed_stops s u (f x) (flat_map f (drop (i + 1) xs)) h ∙ sym (ap (λ l. feed after s (flat_map f l)) (drop_nth xs i x at))
 
-    pub each_goes : (s u : S) (i : ℕ) (x : X) → slice_get xs i ≡ Some x → (u, true) ≡ feed after s (f x) → feed after u (each f (drop (i + 1) xs)) ≡ feed after s (each f (drop i xs))
-    each_goes s u i x at h = feed_goes s u (f x) (each f (drop (i + 1) xs)) h ∙ sym (ap (λ l. feed after s (each f l)) (drop_nth xs i x at))
-
-    pub each_ends : (s : S) (i : ℕ) → length xs ≤ i → feed after s (each f (drop i xs)) ≡ (s, true)
-    each_ends s i past = ap (λ l. feed after s (each f l)) (drop_all i xs past)
+    pub each_goes : (s u : S) (i : ℕ) (x : X) → slice_get xs i ≡ Some x → (u, true) ≡ feed after s (f x) → feed after u (flat_map f (drop (i + 1) xs)) ≡ feed after s (flat_map f (drop i xs))
+    each_goes s u i x at h = feed_goes s u (f x) (flat_map f (drop (i + 1) xs)) h ∙ sym (ap (λ l. feed after s (flat_map f l)) (drop_nth xs i x at))

@@ -1,6 +1,7 @@
 -- An outcome is in the list of what a fact gives exactly where the rules give it. Assumes nothing.
 use Rattle.std.proofs.Common.{◌≡◌, true, false, cond, not, eqb, ◌⊎◌, List, [], ◌∷◌, ◌++◌, is_some, Some, None, Option, sym, refl, ap, ◌∙◌, subst, inl, inr}
 use Rattle.std.proofs.lemmas.Bool.{eq-eqb, ne_eqb, not-true, not_from_false, true≢false}
+use Rattle.std.specs.List.{flat_map}
 use Rattle.ids.specs.declared.numbers.ModuleId.{ModuleId}
 use Rattle.ids.specs.declared.numbers.NameId.{NameId}
 use Rattle.ids.specs.declared.numbers.PackageId.{PackageId}
@@ -12,7 +13,7 @@ use Rattle.host.specs.declared.told.SymbolNodeDep.{SymbolNodeDep}
 use Rattle.host.specs.declared.told.SymbolNodeDep.TheVariants.{Id, QualifiedId, ImportType}
 use Rattle.resolution.specs.Targets as targets
 use Rattle.rules.specs.Facts.{ask, Outcome, reached, found, flagged, reported, package_requested}
-use Rattle.rules.specs.Lists.{each, when, given, asks, Trace, package_of, file_wanted, path_wanted, symbol_of, into_package, into_module, into, asking, dep_gives, apart, member_gives, function_gives, kind_gives, decl_gives, children_give, ask_gives, gives}
+use Rattle.rules.specs.Lists.{when, given, asks, Trace, package_of, file_wanted, path_wanted, symbol_of, into_package, into_module, into, asking, dep_gives, apart, member_gives, function_gives, kind_gives, decl_gives, children_give, ask_gives, gives}
 use Rattle.rules.specs.Members.{In, first, later}
 use Rattle.rules.specs.Rules.{Among, OwnTarget, OtherTarget, Declares, Met, Open, Refers, Public, Gives, private_asked, declaration, overloaded, alias, qualified_alias, file_reference, file_of_package, class_of_member, expando_property, id, qualified_id, import_type, import_of_package, export_of, member_of}
 use Rattle.rules.specs.Symbols.{is_private, namespaces_of, both, includes, is_overloaded, contains, same_symbol, same_package}
@@ -59,8 +60,8 @@ module _ (t : Trace) where
   unfolding gives
   to_ask s r n x o is h = to_given (ask_gives t s r n) (symbol_of t s) x is h
 
-  to_public : (s r : SymbolId) (n : Namespace) (x : Symbol) (o : Outcome) → is_private x ≡ false → In o (each (decl_gives t s r n x) x.decls ++ children_give t s x) → In o (ask_gives t s r n x)
-  to_public s r n x o open-to h = to_else (is_private x) (when (not (same_symbol r x.parent)) (reported UnsupportedPrivateMemberReference s r [] ∷ [])) (each (decl_gives t s r n x) x.decls ++ children_give t s x) open-to h
+  to_public : (s r : SymbolId) (n : Namespace) (x : Symbol) (o : Outcome) → is_private x ≡ false → In o (flat_map (decl_gives t s r n x) x.decls ++ children_give t s x) → In o (ask_gives t s r n x)
+  to_public s r n x o open-to h = to_else (is_private x) (when (not (same_symbol r x.parent)) (reported UnsupportedPrivateMemberReference s r [] ∷ [])) (flat_map (decl_gives t s r n x) x.decls ++ children_give t s x) open-to h
 
   to_decl : (s r : SymbolId) (n : Namespace) (x : Symbol) (d : Decl) (o : Outcome) → Met t s n x d → In o (found d.range ∷ cond (is_overloaded d) (flagged d.range ∷ []) (kind_gives t s r n x d d.kind)) → In o (gives t (ask s r n))
   to_decl s r n x d o m h =
@@ -90,8 +91,8 @@ module _ (t : Trace) where
   to_list_ask s r n (qualified_id {y = y} {q = q} refers) = to_dep s r n (QualifiedId (Some y) q) _ refers (first refl)
   to_list_ask s r n (import_type {specifier = specifier} {o = o} {y = y} refers own) = to_dep s r n (ImportType specifier o) _ refers (to_own specifier (asking t (path_wanted o)) y _ own (first refl))
   to_list_ask s r n (import_of_package {specifier = specifier} {o = o} {g = g} refers other) = to_dep s r n (ImportType specifier o) _ refers (to_other specifier (asking t (path_wanted o)) g other)
-  to_list_ask s r n (export_of {m = m} {x = x} {e = e} is at) = to_ask s r n x _ is.symbol (to_public s r n x _ is.public (in_right (each (decl_gives t s r n x) x.decls) (in_left (each (λ c. asks c s both) x.members) (to_each (λ y. asks y.symbol s both) x.exports e at (to_both e.symbol s m)))))
-  to_list_ask s r n (member_of {c = c} {m = m} {x = x} is at) = to_ask s r n x _ is.symbol (to_public s r n x _ is.public (in_right (each (decl_gives t s r n x) x.decls) (in_right (each (λ e. asks e.symbol s both) x.exports) (to_each (λ y. asks y s both) x.members c at (to_both c s m)))))
+  to_list_ask s r n (export_of {m = m} {x = x} {e = e} is at) = to_ask s r n x _ is.symbol (to_public s r n x _ is.public (in_right (flat_map (decl_gives t s r n x) x.decls) (in_left (flat_map (λ c. asks c s both) x.members) (to_each (λ y. asks y.symbol s both) x.exports e at (to_both e.symbol s m)))))
+  to_list_ask s r n (member_of {c = c} {m = m} {x = x} is at) = to_ask s r n x _ is.symbol (to_public s r n x _ is.public (in_right (flat_map (decl_gives t s r n x) x.decls) (in_right (flat_map (λ e. asks e.symbol s both) x.exports) (to_each (λ y. asks y s both) x.members c at (to_both c s m)))))
 
   -- back from the list
 
@@ -115,7 +116,7 @@ module _ (t : Trace) where
 
   from_function : (s r : SymbolId) (n : Namespace) (x : Symbol) (d : Decl) (o : Outcome) → ((e : Export) (y : Symbol) (b : Decl) → d.flags.function ≡ true → Among x.exports e → symbol_of t e.symbol ≡ Some y → Among y.decls b → contains d.range b.range ≡ false → Gives t (ask s r n) (found b.range)) → In o (function_gives t x d) → Gives t (ask s r n) o
   from_function s r n x d o rule h =
-      let a = from_when d.flags.function (each (λ e. given (apart t d) (symbol_of t e.symbol)) x.exports) h in
+      let a = from_when d.flags.function (flat_map (λ e. given (apart t d) (symbol_of t e.symbol)) x.exports) h in
       let b = from_each (λ e. given (apart t d) (symbol_of t e.symbol)) x.exports a.1 in
       let c = from_given (apart t d) (symbol_of t b.0.symbol) b.2 in
       let e = from_each (λ y. when (not (contains d.range y.range)) (found y.range ∷ [])) c.0.decls c.2 in
@@ -152,7 +153,7 @@ module _ (t : Trace) where
       ]
 
   from_children : (s r : SymbolId) (n : Namespace) (x : Symbol) (o : Outcome) → Public t s x → In o (children_give t s x) → Gives t (ask s r n) o
-  from_children s r n x o is h = elim (in_either (each (λ e. asks e.symbol s both) x.exports) h) [
+  from_children s r n x o is h = elim (in_either (flat_map (λ e. asks e.symbol s both) x.exports) h) [
     | inl a ↦ let e = from_each (λ y. asks y.symbol s both) x.exports a in let b = from_asks e.0.symbol s both o e.2 in subst (λ u. Gives t (ask s r n) u) (sym b.2) (export_of is e.1)
     | inr a ↦ let e = from_each (λ y. asks y s both) x.members a in let b = from_asks e.0 s both o e.2 in subst (λ u. Gives t (ask s r n) u) (sym b.2) (member_of is e.1)
   ]
@@ -161,13 +162,13 @@ module _ (t : Trace) where
   unfolding gives
   from_list_ask s r n o h =
       let a = from_given (ask_gives t s r n) (symbol_of t s) h in
-      by_privacy a.0 a.1 (from_cond (is_private a.0) (when (not (same_symbol r a.0.parent)) (reported UnsupportedPrivateMemberReference s r [] ∷ [])) (each (decl_gives t s r n a.0) a.0.decls ++ children_give t s a.0) a.2)
+      by_privacy a.0 a.1 (from_cond (is_private a.0) (when (not (same_symbol r a.0.parent)) (reported UnsupportedPrivateMemberReference s r [] ∷ [])) (flat_map (decl_gives t s r n a.0) a.0.decls ++ children_give t s a.0) a.2)
     where
-      by_privacy : (x : Symbol) → symbol_of t s ≡ Some x → ((is_private x ≡ true) × In o (when (not (same_symbol r x.parent)) (reported UnsupportedPrivateMemberReference s r [] ∷ []))) ⊎ ((is_private x ≡ false) × In o (each (decl_gives t s r n x) x.decls ++ children_give t s x)) → Gives t (ask s r n) o
+      by_privacy : (x : Symbol) → symbol_of t s ≡ Some x → ((is_private x ≡ true) × In o (when (not (same_symbol r x.parent)) (reported UnsupportedPrivateMemberReference s r [] ∷ []))) ⊎ ((is_private x ≡ false) × In o (flat_map (decl_gives t s r n x) x.decls ++ children_give t s x)) → Gives t (ask s r n) o
       by_privacy x is (inl private) =
           let w = from_when (not (same_symbol r x.parent)) (reported UnsupportedPrivateMemberReference s r [] ∷ []) private.1 in
           subst (λ u. Gives t (ask s r n) u) (sym (in_one w.1)) (private_asked is private.0 (private_apart r x.parent w.0))
-      by_privacy x is (inr open-to) = elim (in_either (each (decl_gives t s r n x) x.decls) open-to.1) [
+      by_privacy x is (inr open-to) = elim (in_either (flat_map (decl_gives t s r n x) x.decls) open-to.1) [
         | inl a ↦ let e = from_each (decl_gives t s r n x) x.decls a in from_decl s r n x e.0 o (record { symbol = is; there = e.1 }) open-to.0 e.2
         | inr b ↦ from_children s r n x o (record { symbol = is; public = open-to.0 }) b
       ]

@@ -1,22 +1,20 @@
 -- The same of paths below a symbol. Assumes nothing.
 use Rattle.std.proofs.Common.{◌≡◌, ◌<◌, ◌≤◌, Bool, true, false, cond, not, ◌&&◌, ◌||◌, eqb, leb, ◌⊎◌, List, [], ◌∷◌, ◌++◌, length, Some, None, Option, sym, refl, ap, ◌∙◌, subst, inl, inr}
 use Rattle.std.proofs.lemmas.Bool.{eqb-true, eq-eqb, leb-true, leb-false, le-leb, lt-leb, not-true, not_from_false, and_from, and_parts, true≢false}
+use Rattle.std.specs.List.{flat_map, list_any}
 use Rattle.ids.specs.Names.{limit, prototype_name}
 use Rattle.ids.specs.Paths.{names_of}
 use Rattle.ids.specs.declared.numbers.NameId.{NameId}
 use Rattle.ids.specs.declared.numbers.SymbolId.{SymbolId}
 use Rattle.host.specs.Program.{DeclKind, target, qualified_target, file_ref, definition, Decl, Symbol}
 use Rattle.rules.specs.Facts.{ask, below, path, Outcome, reached, reported, requested}
-use Rattle.rules.specs.Lists.{each, when, asks, Trace, file_path, symbol_of, formed, elsewhere_gives, below_decl_gives, export_named, member_named, prototype_member as prototype-member-gives, prototype_gives, name_gives, names_give, below_gives, gives}
+use Rattle.rules.specs.Lists.{when, asks, Trace, file_path, symbol_of, formed, elsewhere_gives, below_decl_gives, export_named, member_named, prototype_member as prototype-member-gives, prototype_gives, name_gives, names_give, below_gives, gives}
 use Rattle.rules.specs.Members.{In, first, later}
 use Rattle.rules.specs.Rules.{Declares, Named, Plain, Gives, below_declaration, below_alias, below_qualified_alias, below_file, below_file_of_package, absent_alias, absent_qualified_alias, too_long_alias, too_long_file, prototype, prototype_member, prototype_lacks, prototype_deeper, export_named_last, export_named_on, scope_lacks, itself}
-use Rattle.rules.specs.Symbols.{any, is_class, is_scope, both, leads_elsewhere}
+use Rattle.rules.specs.Symbols.{is_class, is_scope, both, leads_elsewhere}
 use Rattle.rules.specs.declared.facts.DiagnosticKind.TheVariants.{NotFoundReference, UnsupportedComplexReference, UnresolvedReference}
 use Rattle.rules.proofs.Given.{to_own, to_other, from_into}
 use Rattle.rules.proofs.Membership.{in_left, in_right, in_either, in_one, to_each, from_each, to_when, from_when, to_given, from_given, to_then, to_else, from_cond, to_both, from_asks}
-
-too_many : (q : List NameId) → leb (length q) limit ≡ false → limit < length q
-too_many q h = leb-false (length q) limit h
 
 module _ (t : Trace) where
   to_below : (s r : SymbolId) (p : List NameId) (x : Symbol) (o : Outcome) → symbol_of t s ≡ Some x → In o (below_gives t s r p x) → In o (gives t (below s r p))
@@ -24,7 +22,7 @@ module _ (t : Trace) where
   to_below s r p x o is h = to_given (below_gives t s r p) (symbol_of t s) x is h
 
   to_declared : (s r : SymbolId) (p : List NameId) (x : Symbol) (d : Decl) (o : Outcome) → Declares t s x d → In o (below_decl_gives t s r p d) → In o (gives t (below s r p))
-  to_declared s r p x d o m h = to_below s r p x o m.symbol (in_left (when (not (any leads_elsewhere x.decls)) (names_give t s r x p)) (to_each (below_decl_gives t s r p) x.decls d m.there h))
+  to_declared s r p x d o m h = to_below s r p x o m.symbol (in_left (when (not (list_any leads_elsewhere x.decls)) (names_give t s r x p)) (to_each (below_decl_gives t s r p) x.decls d m.there h))
 
   to_elsewhere : (s r : SymbolId) (p : List NameId) (x : Symbol) (d : Decl) (k : DeclKind) (o : Outcome) → Declares t s x d → d.kind ≡ k → In o (elsewhere_gives t s r p k) → In o (gives t (below s r p))
   to_elsewhere s r p x d k o m is h = to_declared s r p x d o m (later (subst (λ u. In o (elsewhere_gives t s r p u)) (sym is) h))
@@ -36,7 +34,7 @@ module _ (t : Trace) where
   to_unformed s r p f q many = to_else (leb (length q) limit) (f q ∷ []) (reported UnresolvedReference s r p ∷ []) (lt-leb (length q) limit many) (first refl)
 
   to_named : (s r : SymbolId) (p : List NameId) (x : Symbol) (o : Outcome) → Named t s x → In o (names_give t s r x p) → In o (gives t (below s r p))
-  to_named s r p x o m h = to_below s r p x o m.symbol (in_right (each (below_decl_gives t s r p) x.decls) (to_when (not (any leads_elsewhere x.decls)) (names_give t s r x p) (not_from_false (any leads_elsewhere x.decls) m.own) h))
+  to_named s r p x o m h = to_below s r p x o m.symbol (in_right (flat_map (below_decl_gives t s r p) x.decls) (to_when (not (list_any leads_elsewhere x.decls)) (names_give t s r x p) (not_from_false (list_any leads_elsewhere x.decls) m.own) h))
 
   to_prototype : (s r : SymbolId) (rest : List NameId) (x : Symbol) (o : Outcome) → Named t s x → is_class x ≡ true → In o (prototype_gives t s r (prototype_name ∷ rest) x rest) → In o (gives t (below s r (prototype_name ∷ rest)))
   to_prototype s r rest x o m class h = to_named s r (prototype_name ∷ rest) x o m (to_then (is_class x) (prototype_gives t s r (prototype_name ∷ rest) x rest) (name_gives t s r (prototype_name ∷ rest) x rest (export_named t x.exports prototype_name)) class h)
@@ -76,7 +74,7 @@ module _ (t : Trace) where
   from_formed : (s r : SymbolId) (p : List NameId) (f : List NameId → Outcome) (q : List NameId) (o : Outcome) → In o (formed t s r p f q) → ((length q ≤ limit) × (o ≡ f q)) ⊎ ((limit < length q) × (o ≡ reported UnresolvedReference s r p))
   from_formed s r p f q o h = elim (from_cond (leb (length q) limit) (f q ∷ []) (reported UnresolvedReference s r p ∷ []) h) [
     | inl few ↦ inl (leb-true (length q) limit few.0, in_one few.1)
-    | inr many ↦ inr (too_many q many.0, in_one many.1)
+    | inr many ↦ inr (leb-false (length q) limit many.0, in_one many.1)
   ]
 
   from_elsewhere : (s r : SymbolId) (p : List NameId) (x : Symbol) (d : Decl) (k : DeclKind) (o : Outcome) → Declares t s x d → d.kind ≡ k → In o (elsewhere_gives t s r p k) → Gives t (below s r p) o
@@ -132,7 +130,7 @@ module _ (t : Trace) where
   unfolding gives
   from_list_below s r p o h =
       let a = from_given (below_gives t s r p) (symbol_of t s) h in
-      elim (in_either (each (below_decl_gives t s r p) a.0.decls) a.2) [
+      elim (in_either (flat_map (below_decl_gives t s r p) a.0.decls) a.2) [
         | inl here ↦ let e = from_each (below_decl_gives t s r p) a.0.decls here in from_declared s r p a.0 e.0 o (record { symbol = a.1; there = e.1 }) e.2
-        | inr names ↦ let w = from_when (not (any leads_elsewhere a.0.decls)) (names_give t s r a.0 p) names in from_names s r a.0 p o (record { symbol = a.1; own = not-true (any leads_elsewhere a.0.decls) w.0 }) w.1
+        | inr names ↦ let w = from_when (not (list_any leads_elsewhere a.0.decls)) (names_give t s r a.0 p) names in from_names s r a.0 p o (record { symbol = a.1; own = not-true (list_any leads_elsewhere a.0.decls) w.0 }) w.1
       ]

@@ -1,10 +1,10 @@
 -- What stands in the lists of which the rules are made. Assumes nothing.
 use Rattle.std.proofs.Common.{◌≡◌, ℕ, zero, suc, Bool, true, false, cond, ◌⊎◌, List, [], ◌∷◌, ◌++◌, is_some, Some, None, Option, sym, refl, ap, subst, inl, inr}
 use Rattle.std.proofs.lemmas.Bool.{true≢false, false≢true}
-use Rattle.std.specs.List.{slice_get}
+use Rattle.std.specs.List.{slice_get, flat_map}
 use Rattle.ids.specs.declared.numbers.SymbolId.{SymbolId}
 use Rattle.rules.specs.Facts.{ask, Outcome, reached}
-use Rattle.rules.specs.Lists.{each, when, given, asks}
+use Rattle.rules.specs.Lists.{when, given, asks}
 use Rattle.rules.specs.Members.{In, first, later}
 use Rattle.rules.specs.Rules.{Among}
 use Rattle.rules.specs.Symbols.{both, includes}
@@ -32,19 +32,19 @@ pub in_one : {X : Type 0} {x y : X} → In x (y ∷ []) → x ≡ y
 in_one (first e) = e
 in_one (later h) = absurd (in_none h)
 
-pub to_each : {X Y : Type 0} {y : Y} (f : X → List Y) (xs : List X) (x : X) → Among xs x → In y (f x) → In y (each f xs)
+pub to_each : {X Y : Type 0} {y : Y} (f : X → List Y) (xs : List X) (x : X) → Among xs x → In y (f x) → In y (flat_map f xs)
 to_each f [] x at h = absurd (true≢false (ap is_some (sym at.1)))
 to_each {X = X} {y = y} f (z ∷ xs) x at h = by_place at.0 at.1 (λ rest. to_each f xs x rest h)
   where
-    by_place : (i : ℕ) → slice_get (z ∷ xs) i ≡ Some x → (Among xs x → In y (each f xs)) → In y (f z ++ each f xs)
-    by_place zero e rest = let same : x ≡ z = cc in in_left (each f xs) (subst (λ u. In y (f u)) same h)
+    by_place : (i : ℕ) → slice_get (z ∷ xs) i ≡ Some x → (Among xs x → In y (flat_map f xs)) → In y (f z ++ flat_map f xs)
+    by_place zero e rest = let same : x ≡ z = cc in in_left (flat_map f xs) (subst (λ u. In y (f u)) same h)
     by_place (suc i) e rest = in_right (f z) (rest (i, e))
 
-pub from_each : {X Y : Type 0} {y : Y} (f : X → List Y) (xs : List X) → In y (each f xs) → (x : X) × Among xs x × In y (f x)
+pub from_each : {X Y : Type 0} {y : Y} (f : X → List Y) (xs : List X) → In y (flat_map f xs) → (x : X) × Among xs x × In y (f x)
 from_each f [] h = absurd (in_none h)
 from_each {X = X} {y = y} f (z ∷ xs) h = by_case (in_either (f z) h) (from_each f xs)
   where
-    by_case : In y (f z) ⊎ In y (each f xs) → (In y (each f xs) → (x : X) × Among xs x × In y (f x)) → (x : X) × Among (z ∷ xs) x × In y (f x)
+    by_case : In y (f z) ⊎ In y (flat_map f xs) → (In y (flat_map f xs) → (x : X) × Among xs x × In y (f x)) → (x : X) × Among (z ∷ xs) x × In y (f x)
     by_case (inl here) rest = (z, (zero, refl), here)
     by_case (inr behind) rest = let r = rest behind in (r.0, (suc r.1.0, r.1.1), r.2)
 

@@ -1,7 +1,7 @@
 -- An outcome is in the list of what the start gives exactly where the rules give it. Assumes nothing.
 use Rattle.std.proofs.Common.{◌≡◌, ℕ, ◌<◌, ◌≤◌, Bool, true, false, not, ◌&&◌, eqb, ◌⊎◌, List, [], ◌∷◌, Some, None, Option, sym, refl, ap, ◌∙◌, subst, inl, inr, arith}
 use Rattle.std.proofs.lemmas.Bool.{eq-eqb, ne_eqb, not-true, not_from_false, cases_lt, true≢false, false≢true}
-use Rattle.std.specs.List.{slice_get}
+use Rattle.std.specs.List.{slice_get, flat_map}
 use Rattle.ids.specs.Paths.{names_of}
 use Rattle.ids.specs.declared.numbers.ModuleId.{ModuleId}
 use Rattle.ids.specs.declared.numbers.NameId.{NameId}
@@ -19,7 +19,7 @@ use Rattle.offering.proofs.Computing.{first_lawful}
 use Rattle.offering.specs.Computed.{first_offer}
 use Rattle.offering.specs.Offers.{First}
 use Rattle.rules.specs.Facts.{ask, path, Outcome, reached, found, reported, requested, package_requested}
-use Rattle.rules.specs.Lists.{each, given, asks, Trace, package_of, symbol_of, export_named}
+use Rattle.rules.specs.Lists.{given, asks, Trace, package_of, symbol_of, export_named}
 use Rattle.rules.specs.Members.{In, first, later}
 use Rattle.rules.specs.Rules.{Among}
 use Rattle.rules.specs.Starting.{Exported, LeadsTo, StarGives, star_export, star_range, star_request, star_package, PathGives, path_export, path_below, path_range, path_request, path_nowhere, RecordGives, of_star, of_full, of_path, is_traced, is_untyped, Starts, untyped, traced}
@@ -62,13 +62,13 @@ module _ (t : Trace) where
   let_in false e h is z = true≢false (sym (eq-eqb e.name.0 0 z) ∙ not-true (eqb e.name.0 0) h)
 
   to_all : (b : Bool) (e : ReExportAll) (o : Outcome) → Among (lists.module_alls t) e → In o (lists.star_all t e) → In o (lists.star_gives t b)
-  to_all b e o at h = in_right (each (lists.star_export t b) (lists.module_exports t)) (to_each (lists.star_all t) (lists.module_alls t) e at h)
+  to_all b e o at h = in_right (flat_map (lists.star_export t b) (lists.module_exports t)) (to_each (lists.star_all t) (lists.module_alls t) e at h)
 
   to_all_into : (e : ReExportAll) (y : ModuleId) (g : PackageId) (o : Outcome) → LeadsTo t e y → package_of t.program y ≡ Some g → In o (lists.star_into t y g) → In o (lists.star_all t e)
   to_all_into e y g o leads owned h = later (to_given (λ z. given (lists.star_into t z) (package_of t.program z)) (targets.target t.program t.at e.specifier) y leads (to_given (lists.star_into t y) (package_of t.program y) g owned h))
 
   pub to_star : (b : Bool) {o : Outcome} → StarGives t b o → In o (lists.star_gives t b)
-  to_star b (star_export {e = e} {n = n} at out exported) = in_left (each (lists.star_all t) (lists.module_alls t)) (to_each (lists.star_export t b) (lists.module_exports t) e at (to_when (not (not b && eqb e.name.0 0)) (lists.export_asked t e.symbol) (kept_out b e out) (to_exported e.symbol n exported)))
+  to_star b (star_export {e = e} {n = n} at out exported) = in_left (flat_map (lists.star_all t) (lists.module_alls t)) (to_each (lists.star_export t b) (lists.module_exports t) e at (to_when (not (not b && eqb e.name.0 0)) (lists.export_asked t e.symbol) (kept_out b e out) (to_exported e.symbol n exported)))
   to_star b (star_range {e = e} at) = to_all b e _ at (first refl)
   to_star b (star_request {e = e} {y = y} {g = g} at leads owned) = to_all b e _ at (to_all_into e y g _ leads owned (first refl))
   to_star b (star_package {e = e} {y = y} {g = g} at leads owned other) = to_all b e _ at (to_all_into e y g _ leads owned (later (to_when (not (same_package t.owner g)) (package_requested g ∷ []) (not_from_false (same_package t.owner g) other) (first refl))))
@@ -87,7 +87,7 @@ module _ (t : Trace) where
           subst (λ u. StarGives t b u) (sym (in_one w.1)) (star_package at leads owned (not-true (same_package t.owner g) w.0))
 
   pub from_star : (b : Bool) (o : Outcome) → In o (lists.star_gives t b) → StarGives t b o
-  from_star b o h = elim (in_either (each (lists.star_export t b) (lists.module_exports t)) h) [
+  from_star b o h = elim (in_either (flat_map (lists.star_export t b) (lists.module_exports t)) h) [
     | inl a ↦ let e = from_each (lists.star_export t b) (lists.module_exports t) a in let w = from_when (not (not b && eqb e.0.name.0 0)) (lists.export_asked t e.0.symbol) e.2 in let x = from_exported e.0.symbol o w.1 in subst (λ u. StarGives t b u) (sym x.2) (star_export e.1 (let_in b e.0 w.0) x.1)
     | inr a ↦ let e = from_each (lists.star_all t) (lists.module_alls t) a in from_all b e.0 o e.1 e.2
   ]

@@ -1,8 +1,7 @@
 -- A list that was worked off has exactly what is reached. Assumes nothing.
 use Rattle.std.proofs.Common.{◌≡◌, ℕ, zero, suc, ◌<◌, ◌≤◌, Bool, true, false, cond, ◌⊎◌, List, [], ◌∷◌, ◌++◌, length, is_some, Some, Decides, sym, refl, ap, ◌∙◌, subst, inl, inr, append_assoc, append-nil, arith, length-append}
 use Rattle.std.proofs.lemmas.Bool.{or_cases, or_left, or_right, true≢false, false≢true}
-use Rattle.std.specs.List.{slice_get}
-use Rattle.rules.specs.Lists.{each}
+use Rattle.std.specs.List.{slice_get, flat_map}
 use Rattle.rules.specs.Members.{In, first, later}
 use Rattle.rules.specs.Rules.{Among}
 use Rattle.rules.specs.Worklist.{Reach, from_start, from_one, among, added, distinct, Supported, Apart, Collected}
@@ -17,22 +16,12 @@ place_in [] i x h = absurd (true≢false (ap is_some (sym h)))
 place_in (y ∷ xs) zero x h = let e : x ≡ y = cc in first e
 place_in (y ∷ xs) (suc i) x h = later (place_in xs i x h)
 
-nth_front : {A : Type 0} (xs ys : List A) (i : ℕ) (x : A) → slice_get xs i ≡ Some x → slice_get (xs ++ ys) i ≡ Some x
-nth_front [] ys i x h = absurd (true≢false (ap is_some (sym h)))
-nth_front (y ∷ xs) ys zero x h = h
-nth_front (y ∷ xs) ys (suc i) x h = nth_front xs ys i x h
-
 -- what stands at a place of a list with one more at its end
 nth_last : {A : Type 0} (xs : List A) (z : A) (i : ℕ) (x : A) → slice_get (xs ++ z ∷ []) i ≡ Some x → (slice_get xs i ≡ Some x) ⊎ ((i ≡ length xs) × (x ≡ z))
 nth_last [] z zero x h = let e : x ≡ z = cc in inr (refl, e)
 nth_last [] z (suc i) x h = absurd (true≢false (ap is_some (sym h)))
 nth_last (y ∷ xs) z zero x h = inl h
 nth_last (y ∷ xs) z (suc i) x h = elim (nth_last xs z i x h) [ inl old ↦ inl old | inr new ↦ inr (ap suc new.0, new.1) ]
-
-nth_inside : {A : Type 0} (xs : List A) (i : ℕ) (x : A) → slice_get xs i ≡ Some x → i < length xs
-nth_inside [] i x h = absurd (true≢false (ap is_some (sym h)))
-nth_inside (y ∷ xs) zero x h = omega arith
-nth_inside (y ∷ xs) (suc i) x h = let l = nth_inside xs i x h in omega arith
 
 module _ {A : Type 0} (same : A → A → Bool) (lawful : (x y : A) → Decides (same x y) (x ≡ y)) where
   among_in : (rows : List A) (x : A) → among same rows x ≡ true → In x rows
@@ -123,16 +112,16 @@ module _ {A : Type 0} (same : A → A → Bool) (lawful : (x y : A) → Decides 
         by_why (inl s) below = from_start s
         by_why (inr e) below = from_one (below e.0 e.1 (omega (arith, e.2)) e.3) e.4
 
-    complete_by : (rows : List A) → rows ≡ distinct same (start ++ each gives rows) → {x : A} → Reach start gives x → In x rows
-    complete_by rows turn {x} (from_start h) = subst (λ l. In x l) (sym turn) (added_has [] (start ++ each gives rows) (in_left (each gives rows) h))
-    complete_by rows turn {x} (from_one {y = y} r h) = subst (λ l. In x l) (sym turn) (added_has [] (start ++ each gives rows) (in_right start (to_each gives rows y (in_place (complete_by rows turn r)) h)))
+    complete_by : (rows : List A) → rows ≡ distinct same (start ++ flat_map gives rows) → {x : A} → Reach start gives x → In x rows
+    complete_by rows turn {x} (from_start h) = subst (λ l. In x l) (sym turn) (added_has [] (start ++ flat_map gives rows) (in_left (flat_map gives rows) h))
+    complete_by rows turn {x} (from_one {y = y} r h) = subst (λ l. In x l) (sym turn) (added_has [] (start ++ flat_map gives rows) (in_right start (to_each gives rows y (in_place (complete_by rows turn r)) h)))
 
     -- rows in turn, each with its reason, are exactly what is reached
-    pub collected : (rows : List A) → rows ≡ distinct same (start ++ each gives rows) → Supported start gives rows → Collected same start gives rows
+    pub collected : (rows : List A) → rows ≡ distinct same (start ++ flat_map gives rows) → Supported start gives rows → Collected same start gives rows
     collected rows turn why = record {
       in_turn = turn;
       supported = why;
-      apart = subst Apart (sym turn) (added_apart [] (start ++ each gives rows) (λ i j x a b. absurd (true≢false (ap is_some (sym a)))));
+      apart = subst Apart (sym turn) (added_apart [] (start ++ flat_map gives rows) (λ i j x a b. absurd (true≢false (ap is_some (sym a)))));
       sound = λ x h. let at = in_place h in sound_at rows why at.0 at.0 x (omega arith) at.1;
       complete = λ x r. complete_by rows turn r;
     }

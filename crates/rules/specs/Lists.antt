@@ -1,5 +1,6 @@
 -- What the start of a trace and each fact give, in the order in which it is met, value before type. Assumes nothing.
 use Rattle.std.specs.Prelude.{Bool, true, false, cond, not, ◌&&◌, ◌||◌, List, [], ◌∷◌, ◌++◌, length, Some, None, Option, ◌==◌, nat_le}
+use Rattle.std.specs.List.{flat_map, list_any}
 use Rattle.ids.specs.Names.{limit}
 use Rattle.ids.specs.Paths.{names_of}
 use Rattle.ids.specs.declared.numbers.ModuleId.{ModuleId}
@@ -17,15 +18,10 @@ use Rattle.host.specs.declared.told.SymbolNodeDep.{SymbolNodeDep}
 use Rattle.host.specs.declared.told.SymbolNodeDep.TheVariants.{Id, QualifiedId, ImportType}
 use Rattle.resolution.specs.Targets as targets
 use Rattle.rules.specs.Facts.{Fact, ask, below, Wanted, path, full, Outcome, reached, found, flagged, reported, requested, package_requested}
-use Rattle.rules.specs.Symbols.{any, name_of, is_private, is_class, is_scope, namespaces_of, both, includes, is_overloaded, contains, leads_elsewhere, same_symbol, same_package}
+use Rattle.rules.specs.Symbols.{name_of, is_private, is_class, is_scope, namespaces_of, both, includes, is_overloaded, contains, leads_elsewhere, same_symbol, same_package}
 use Rattle.rules.specs.declared.facts.DiagnosticKind.TheVariants.{UnsupportedPrivateMemberReference, NotFoundReference, UnsupportedComplexReference, UnresolvedReference}
 use Rattle.rules.specs.declared.facts.Namespace.{Namespace}
 use Rattle.rules.specs.declared.facts.Namespace.TheVariants.{Value, «Type»}
-
--- what f gives of each element, one after another
-abbrev pub each : {X Y : Type 0} → (X → List Y) → List X → List Y
-each f [] = []
-each f (x ∷ xs) = f x ++ each f xs
 
 abbrev pub when : {X : Type 0} → Bool → List X → List X
 when true xs = xs
@@ -87,30 +83,30 @@ module _ (t : Trace) where
 
   -- the ranges of an export that the range of d does not contain
   abbrev pub apart : Decl → Symbol → List Outcome
-  apart d e = each (λ x. when (not (contains d.range x.range)) (found x.range ∷ [])) e.decls
+  apart d e = flat_map (λ x. when (not (contains d.range x.range)) (found x.range ∷ [])) e.decls
 
   abbrev pub member_gives : SymbolId → SymbolId → Symbol → Decl → List Outcome
   member_gives s r x d = when d.flags.member (given (λ q. when (not (q.0 == r.0)) (asks q s both)) x.parent)
 
   abbrev pub function_gives : Symbol → Decl → List Outcome
-  function_gives x d = when d.flags.function (each (λ e. given (apart d) (symbol_of e.symbol)) x.exports)
+  function_gives x d = when d.flags.function (flat_map (λ e. given (apart d) (symbol_of e.symbol)) x.exports)
 
   abbrev pub kind_gives : SymbolId → SymbolId → Namespace → Symbol → Decl → DeclKind → List Outcome
   kind_gives s r n x d (target o) = given (λ y. reached (ask y s n) ∷ []) o
   kind_gives s r n x d (qualified_target o q) = given (λ y. reached (below y s (names_of q)) ∷ []) o
   kind_gives s r n x d (file_ref f) = into f.specifier (asking (file_wanted f.name))
-  kind_gives s r n x d (definition k deps) = member_gives s r x d ++ (function_gives x d ++ each (dep_gives s) deps)
+  kind_gives s r n x d (definition k deps) = member_gives s r x d ++ (function_gives x d ++ flat_map (dep_gives s) deps)
 
   abbrev pub decl_gives : SymbolId → SymbolId → Namespace → Symbol → Decl → List Outcome
   decl_gives s r n x d =
       when (includes (namespaces_of d) n) (found d.range ∷ cond (is_overloaded d) (flagged d.range ∷ []) (kind_gives s r n x d d.kind))
 
   abbrev pub children_give : SymbolId → Symbol → List Outcome
-  children_give s x = each (λ e. asks e.symbol s both) x.exports ++ each (λ c. asks c s both) x.members
+  children_give s x = flat_map (λ e. asks e.symbol s both) x.exports ++ flat_map (λ c. asks c s both) x.members
 
   abbrev pub ask_gives : SymbolId → SymbolId → Namespace → Symbol → List Outcome
   ask_gives s r n x =
-      cond (is_private x) (when (not (same_symbol r x.parent)) (reported UnsupportedPrivateMemberReference s r [] ∷ [])) (each (decl_gives s r n x) x.decls ++ children_give s x)
+      cond (is_private x) (when (not (same_symbol r x.parent)) (reported UnsupportedPrivateMemberReference s r [] ∷ [])) (flat_map (decl_gives s r n x) x.decls ++ children_give s x)
 
   -- what a path below s gives that is asked by r
 
@@ -173,7 +169,7 @@ module _ (t : Trace) where
   names_give s r x (f ∷ rest) = cond (f.0 == 1 && is_class x) (prototype_gives s r (f ∷ rest) x rest) (name_gives s r (f ∷ rest) x rest (export_named x.exports f))
 
   abbrev pub below_gives : SymbolId → SymbolId → List NameId → Symbol → List Outcome
-  below_gives s r p x = each (below_decl_gives s r p) x.decls ++ when (not (any leads_elsewhere x.decls)) (names_give s r x p)
+  below_gives s r p x = flat_map (below_decl_gives s r p) x.decls ++ when (not (list_any leads_elsewhere x.decls)) (names_give s r x p)
 
   -- what a fact gives
   unfoldable pub gives : Fact → List Outcome

@@ -1,6 +1,6 @@
 -- The rules of one trace as a relation: one constructor for each way in which a fact gives something. Assumes nothing.
 use Rattle.std.specs.Prelude.{◌≡◌, ℕ, ◌<◌, ◌≤◌, true, false, ◌||◌, List, [], ◌∷◌, ◌++◌, length, Some, None, Option, ◌≢◌}
-use Rattle.std.specs.List.{slice_get}
+use Rattle.std.specs.List.{slice_get, list_any}
 use Rattle.ids.specs.Names.{limit, prototype_name}
 use Rattle.ids.specs.Paths.{names_of}
 use Rattle.ids.specs.declared.numbers.ModuleId.{ModuleId}
@@ -19,7 +19,7 @@ use Rattle.host.specs.declared.told.SymbolNodeDep.TheVariants.{Id, QualifiedId, 
 use Rattle.resolution.specs.Targets as targets
 use Rattle.rules.specs.Facts.{Fact, ask, below, path, Outcome, reached, found, flagged, reported, requested, package_requested}
 use Rattle.rules.specs.Lists.{Trace, package_of, file_wanted, path_wanted, file_path, symbol_of, export_named, member_named}
-use Rattle.rules.specs.Symbols.{any, is_private, is_class, is_scope, namespaces_of, includes, is_overloaded, contains, leads_elsewhere, same_package}
+use Rattle.rules.specs.Symbols.{is_private, is_class, is_scope, namespaces_of, includes, is_overloaded, contains, leads_elsewhere, same_package}
 use Rattle.rules.specs.declared.facts.DiagnosticKind.TheVariants.{UnsupportedPrivateMemberReference, NotFoundReference, UnsupportedComplexReference, UnresolvedReference}
 use Rattle.rules.specs.declared.facts.Namespace.{Namespace}
 
@@ -76,7 +76,7 @@ module _ (t : Trace) where
   -- no declaration of s leads elsewhere: a path below it is looked up by name
   pub record Named (s : SymbolId) (x : Symbol) : Type 0 where
     pub symbol : symbol_of t s ≡ Some x
-    pub own : any leads_elsewhere x.decls ≡ false
+    pub own : list_any leads_elsewhere x.decls ≡ false
 
   -- and its first name is not `prototype` of a class
   pub record Plain (s : SymbolId) (x : Symbol) (f : NameId) : Type 0 where

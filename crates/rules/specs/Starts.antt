@@ -1,6 +1,6 @@
 -- What the start of a trace gives, in the order in which it is met. Assumes nothing.
 use Rattle.std.specs.Prelude.{ℕ, Bool, true, false, not, ◌&&◌, List, [], ◌∷◌, ◌++◌, Some, None, Option, ◌==◌}
-use Rattle.std.specs.List.{slice_get}
+use Rattle.std.specs.List.{slice_get, flat_map}
 use Rattle.ids.specs.Paths.{names_of}
 use Rattle.ids.specs.declared.numbers.ModuleId.{ModuleId}
 use Rattle.ids.specs.declared.numbers.NameId.{NameId}
@@ -17,7 +17,7 @@ use Rattle.resolution.specs.Targets as targets
 use Rattle.offering.specs.Computed.{first_offer}
 use Rattle.offering.specs.ExportedNames.{star_entries}
 use Rattle.rules.specs.Facts.{below, path, star, Outcome, reached, found, reported, requested, package_requested}
-use Rattle.rules.specs.Lists.{each, when, given, asks, Trace, package_of, symbol_of, export_named}
+use Rattle.rules.specs.Lists.{when, given, asks, Trace, package_of, symbol_of, export_named}
 use Rattle.rules.specs.Symbols.{exported_namespaces, same_package}
 use Rattle.rules.specs.declared.facts.DiagnosticKind.TheVariants.{UnsupportedNestedJavaScript}
 
@@ -46,7 +46,7 @@ module _ (t : Trace) where
   star_all e = found e.range ∷ given (λ y. given (star_into y) (package_of t.program y)) (targets.target t.program t.at e.specifier)
 
   abbrev pub star_gives : Bool → List Outcome
-  star_gives with_default = each (star_export with_default) module_exports ++ each star_all module_alls
+  star_gives with_default = flat_map (star_export with_default) module_exports ++ flat_map star_all module_alls
 
   -- a path: its first name is exported, or the first export-all that offers it is found, or all are
 
@@ -61,7 +61,7 @@ module _ (t : Trace) where
   path_offered ns e = found e.range ∷ given (λ y. path_into ns (targets.stands t.program y)) (targets.target t.program t.at e.specifier)
 
   abbrev pub path_passed : List NameId → Option ℕ → List Outcome
-  path_passed ns None = each (λ e. found e.range ∷ []) module_alls
+  path_passed ns None = flat_map (λ e. found e.range ∷ []) module_alls
   path_passed ns (Some i) = given (path_offered ns) (slice_get module_alls i)
 
   abbrev pub path_begun : List NameId → NameId → List NameId → Option SymbolId → List Outcome
@@ -75,7 +75,7 @@ module _ (t : Trace) where
   abbrev pub record_gives : joining.Record → List Outcome
   record_gives joining.star = star_gives false
   record_gives joining.full = star_gives true
-  record_gives (joining.kept ps) = each (λ q. path_gives (names_of q)) ps
+  record_gives (joining.kept ps) = flat_map (λ q. path_gives (names_of q)) ps
 
 -- where the trace of a module runs
 abbrev pub trace_of : Program → ModuleId → Trace

@@ -1,5 +1,6 @@
 -- What the declarations of a symbol say of it. Assumes nothing.
-use Rattle.std.specs.Prelude.{Bool, true, false, cond, ◌&&◌, ◌||◌, List, [], ◌∷◌, Some, None, Option, ◌==◌, nat_le}
+use Rattle.std.specs.Prelude.{Bool, true, false, cond, ◌&&◌, List, [], ◌∷◌, Some, None, Option, ◌==◌, nat_le}
+use Rattle.std.specs.List.{list_any}
 use Rattle.ids.specs.declared.numbers.NameId.{NameId}
 use Rattle.ids.specs.declared.numbers.PackageId.{PackageId}
 use Rattle.ids.specs.declared.numbers.SymbolId.{SymbolId}
@@ -9,10 +10,6 @@ use Rattle.host.specs.Rules.{is_definition}
 use Rattle.host.specs.declared.told.SourceRange.{SourceRange}
 use Rattle.rules.specs.declared.facts.Namespace.{Namespace}
 use Rattle.rules.specs.declared.facts.Namespace.TheVariants.{Value, «Type»}
-
-abbrev pub any : {X : Type 0} → (X → Bool) → List X → Bool
-any t [] = false
-any t (x ∷ xs) = t x || any t xs
 
 -- the first declaration gives name and privacy
 
@@ -33,10 +30,10 @@ is_private s = first_private s.decls
 -- any declaration makes a class or a scope
 
 abbrev pub is_class : Symbol → Bool
-is_class s = any (λ d. d.flags.class) s.decls
+is_class s = list_any (λ d. d.flags.class) s.decls
 
 abbrev pub is_scope : Symbol → Bool
-is_scope s = any (λ d. d.flags.scope) s.decls
+is_scope s = list_any (λ d. d.flags.scope) s.decls
 
 -- whether a declaration is a value, and whether it is a type
 abbrev pub namespaces_of : Decl → Bool × Bool
@@ -56,7 +53,7 @@ is_exported d = is_definition d.kind && d.flags.export
 -- in what namespaces a symbol is exported: those of its definitions marked export, or else both
 abbrev pub exported_namespaces : Symbol → Bool × Bool
 exported_namespaces s =
-    cond (any is_exported s.decls) (any (λ d. is_exported d && (namespaces_of d).0) s.decls, any (λ d. is_exported d && (namespaces_of d).1) s.decls) both
+    cond (list_any is_exported s.decls) (list_any (λ d. is_exported d && (namespaces_of d).0) s.decls, list_any (λ d. is_exported d && (namespaces_of d).1) s.decls) both
 
 -- an implementation that has overloads
 abbrev pub is_overloaded : Decl → Bool

@@ -1,7 +1,6 @@
 -- A list that is worked off while it grows: what it has at last. Assumes nothing.
 use Rattle.std.specs.Prelude.{◌≡◌, ℕ, ◌<◌, Bool, false, cond, ◌||◌, ◌⊎◌, List, [], ◌∷◌, ◌++◌, Some}
-use Rattle.std.specs.List.{slice_get}
-use Rattle.rules.specs.Lists.{each}
+use Rattle.std.specs.List.{slice_get, flat_map}
 use Rattle.rules.specs.Members.{In}
 
 -- what is reached from a start by giving
@@ -34,7 +33,7 @@ Apart {A} rows = (i j : ℕ) (x : A) → slice_get rows i ≡ Some x → slice_g
 -- the rows of a list that was worked off: the distinct elements of what the start and then the rows give, in turn, each
 -- with its reason; they are distinct, and exactly what is reached
 pub record Collected {A : Type 0} (same : A → A → Bool) (start : List A) (gives : A → List A) (rows : List A) : Type 0 where
-  pub in_turn : rows ≡ distinct same (start ++ each gives rows)
+  pub in_turn : rows ≡ distinct same (start ++ flat_map gives rows)
   pub supported : Supported start gives rows
   pub apart : Apart rows
   pub sound : (x : A) → In x rows → Reach start gives x

@@ -17,7 +17,7 @@ pub enum Namespace {
 #[derive(Clone, Copy, PartialEq, Eq, Debug)]
 pub enum DiagnosticKind {
     // an entry module is missing
-    ExportNotFound,
+    ExportNotFound = 1,
     // an entry module is untyped JavaScript or external
     UnsupportedJavaScriptEntrypoint,
     // an untyped JavaScript module is traced
@@ -37,15 +37,7 @@ impl DiagnosticKind {
     pub fn number(self) -> u8
         ensures { result ≡ spec.number self }
     {
-        match self {
-            DiagnosticKind::ExportNotFound => 1,
-            DiagnosticKind::UnsupportedJavaScriptEntrypoint => 2,
-            DiagnosticKind::UnsupportedNestedJavaScript => 3,
-            DiagnosticKind::UnsupportedPrivateMemberReference => 4,
-            DiagnosticKind::NotFoundReference => 5,
-            DiagnosticKind::UnsupportedComplexReference => 6,
-            DiagnosticKind::UnresolvedReference => 7,
-        }
+        self as u8
     }
 }
 

@@ -4,6 +4,7 @@
 mod facts;
 mod places;
 mod sinks;
+mod trace_struct;
 mod visiting;
 
 pub use facts::{Diagnostic, DiagnosticKind, Fact, Namespace, Outcome};

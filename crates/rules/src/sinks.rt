@@ -9,6 +9,8 @@ use crate::facts::Outcome;
 #[derive(Clone, Copy)]
 pub struct Stopped;
 
+// A trait and no closure: `after` is a function of the sink, where a closure's step is a relation. By `after` each contract
+// says what is in the sink afterwards.
 pub trait Sink {
     // what an outcome makes of the sink, and whether it goes on
     ghost after: { Self → meaning.Outcome → Self × Bool };

@@ -5,22 +5,12 @@ use host::{
 };
 use ids::{ModuleId, NameId, PackageId, Path, SymbolId};
 
+#[derive(Drop)]
 pub struct ProgramTable {
     // how many names there are
     pub names: u32,
     pub packages: Vec<PackageTable>,
     pub modules: Vec<ModuleTable>,
-}
-
-// Written out and not derived, so that what lets tables go is proved here and not again in each crate above.
-impl Drop for ProgramTable {
-    fn drop(self) {
-        let ProgramTable {
-            names: _,
-            packages: _,
-            modules: _,
-        } = self;
-    }
 }
 
 #[derive(Drop)]
@@ -56,7 +46,9 @@ pub struct DeclTable {
     pub kind: DeclKindTable,
 }
 
-// What a declaration is. A symbol that cannot be found is none.
+// What a declaration is. A symbol that cannot be found is none. An enum beside the host's `SymbolDeclKind`, and a
+// `DeclTable` beside its `SymbolDecl`: those have counts, and one type over what a definition carries would put that
+// parameter into each definition that speaks of either.
 #[derive(Drop)]
 pub enum DeclKindTable {
     // an alias of a symbol

@@ -1,13 +1,12 @@
 // Every rule of the records, checked over tables. No call asks for memory.
-ghost use Rattle.std.specs.Prelude.{◌≡◌, ◌&&◌, map, length, Decides, nat_le};
+ghost use Rattle.std.specs.Prelude.{◌≡◌, ◌&&◌, map, Decides, nat_le};
 ghost use Rattle.host.specs.Program.{Program};
 ghost use Rattle.host.specs.Rules as rules;
 ghost use Rattle.host.specs.Tests as tests;
 ghost use Rattle.table_rules.specs.Meaning.{module_of, package_of, program_of};
 
-use crate::checks::{all, all_at};
 use crate::modules::Counts;
-use crate::packages::Among;
+use crate::packages::package_kept;
 use crate::program_table::{ModuleTable, PackageTable, ProgramTable};
 
 // The limits of the host's rules are the same numbers.
@@ -21,24 +20,17 @@ const MODULE_LIMIT: usize = 1024;
 fn sizes_kept(names: u32, packages: usize, modules: usize) -> bool
     ensures { result ≡ (nat_le 2 names && (nat_le names rules.name_limit && (nat_le packages rules.package_limit && nat_le modules rules.module_limit))) }
 {
-    2 <= names && names <= NAME_LIMIT && packages <= PACKAGE_LIMIT && modules <= MODULE_LIMIT
+    (2..=NAME_LIMIT).contains(&names) && packages <= PACKAGE_LIMIT && modules <= MODULE_LIMIT
 }
 
+// The rules of each package of the program.
 fn packages_kept(modules: &[ModuleTable], packages: &[PackageTable]) -> bool
     ensures { result ≡ tests.all_at (tests.package_kept (map module_of modules.now)) 0 (map package_of packages.now) }
 {
-    all_at(&Among { modules }, packages)
-}
-
-fn modules_kept(names: usize, packages: usize, modules: &[ModuleTable]) -> bool
-    ensures { result ≡ tests.all (tests.module_kept names packages (length (map module_of modules.now))) (map module_of modules.now) }
-{
-    let counts = Counts {
-        names,
-        packages,
-        modules: modules.len(),
-    };
-    all(&counts, modules)
+    packages
+        .iter()
+        .enumerate()
+        .all(|(number, package)| package_kept(modules, number, package))
 }
 
 // Whether tables keep the rules: the computed test, and the rules as they are to be read. The two say the same of every
@@ -48,11 +40,12 @@ pub fn keeps_rules(table: &ProgramTable) -> bool
     ensures kept { Decides result (rules.Kept (program_of table.now)) }
     ensures alike { (p : Program) → Decides (tests.valid p) (rules.Kept p) }
 {
+    let counts = Counts {
+        names: table.names as usize,
+        packages: table.packages.len(),
+        modules: table.modules.len(),
+    };
     sizes_kept(table.names, table.packages.len(), table.modules.len())
-        && packages_kept(table.modules.as_slice(), table.packages.as_slice())
-        && modules_kept(
-            table.names as usize,
-            table.packages.len(),
-            table.modules.as_slice(),
-        )
+        && packages_kept(&table.modules, &table.packages)
+        && counts.modules_kept(&table.modules)
 }

@@ -1,69 +1,58 @@
 // The tests of a symbol.
-ghost use Rattle.std.specs.Prelude.{◌≡◌, ◌&&◌, map, length, nat_le};
-ghost use Rattle.host.specs.Rules as rules;
+ghost use Rattle.std.specs.Prelude.{◌≡◌, ◌&&◌, map};
+ghost use Rattle.std.specs.List.{list_all};
 ghost use Rattle.host.specs.Tests as tests;
 ghost use Rattle.table_rules.specs.Meaning.{decl_of, symbol_of};
 
-use crate::checks::{Keyed, Test, TestAt, all, distinct, few, held};
-use crate::decls::{Below, Inside, decl_kept};
+use crate::checks::{below, few};
+use crate::decls::Inside;
 use crate::program_table::{DeclTable, SymbolTable};
-use host::Export;
+use host::{Export, distinct};
 use ids::SymbolId;
 
-impl Test<Export> for Inside {
-    ghost passes = { λ t e. tests.export_known t.names t.symbols e };
-
-    fn test(&self, export: &Export) -> bool {
-        Below(self.names).test(&export.name) && Below(self.symbols).test(&export.symbol)
+impl Inside {
+    fn export_known(&self, export: &Export) -> bool
+        ensures { result ≡ tests.export_known self.now.names self.now.symbols export.now }
+    {
+        below(export.name.0, self.names) && below(export.symbol.0, self.symbols)
     }
-}
 
-// No two exports of a symbol have the same name.
-impl Keyed for Export {
-    ghost number = { λ e. e.name.0 };
-
-    fn key(&self) -> u32 {
-        self.name.0
+    fn decls_kept(&self, decls: &[DeclTable]) -> bool
+        ensures { result ≡ list_all (tests.decl_kept self.now.names self.now.symbols) (map decl_of decls.now) }
+    {
+        decls.iter().all(|decl| self.decl_kept(decl))
     }
-}
 
-// Whether each of the declarations keeps its rules.
-fn each_decl_kept(inside: &Inside, decls: &[DeclTable]) -> bool
-    ensures { result ≡ tests.all (tests.decl_kept inside.now.names inside.now.symbols) (map decl_of decls.now) }
-{
-    for decl in decls {
-        if !decl_kept(inside, decl) {
-            return false;
-        }
+    fn exports_known(&self, exports: &[Export]) -> bool
+        ensures { result ≡ list_all (tests.export_known self.now.names self.now.symbols) exports.now }
+    {
+        exports.iter().all(|export| self.export_known(export))
     }
-    true
-}
 
-fn decls_kept(inside: &Inside, decls: &[DeclTable]) -> bool
-    ensures { result ≡ (nat_le 1 (length (map decl_of decls.now)) && (nat_le (length (map decl_of decls.now)) rules.list_limit && tests.all (tests.decl_kept inside.now.names inside.now.symbols) (map decl_of decls.now))) }
-{
-    decls.len() >= 1 && few(decls) && each_decl_kept(inside, decls)
-}
+    // Each is known, and no two have the same name.
+    fn exports_kept(&self, exports: &[Export]) -> bool
+        ensures { result ≡ (list_all (tests.export_known self.now.names self.now.symbols) exports.now && tests.distinct (map (λ e. e.name.0) exports.now)) }
+    {
+        self.exports_known(exports) && distinct(exports, |export| export.name.0)
+    }
 
-fn exports_kept(inside: &Inside, exports: &[Export]) -> bool
-    ensures { result ≡ (nat_le (length exports.now) rules.list_limit && (tests.all (tests.export_known inside.now.names inside.now.symbols) exports.now && tests.distinct (map (λ e. e.name.0) exports.now))) }
-{
-    few(exports) && all(inside, exports) && distinct(exports)
-}
+    fn members_known(&self, members: &[SymbolId]) -> bool
+        ensures { result ≡ list_all (tests.symbol_known self.now.symbols) members.now }
+    {
+        members.iter().all(|member| below(member.0, self.symbols))
+    }
 
-fn members_kept(symbols: usize, members: &[SymbolId]) -> bool
-    ensures { result ≡ (nat_le (length members.now) rules.list_limit && tests.all (tests.symbol_known symbols) members.now) }
-{
-    few(members) && all(&Below(symbols), members)
-}
-
-impl TestAt<SymbolTable> for Inside {
-    ghost stands = { λ t i s. tests.symbol_kept t.names t.symbols i (symbol_of s) };
-
-    fn test_at(&self, place: usize, symbol: &SymbolTable) -> bool {
-        held(&Below(place), &symbol.parent)
-            && decls_kept(self, symbol.decls.as_slice())
-            && exports_kept(self, symbol.exports.as_slice())
-            && members_kept(self.symbols, symbol.members.as_slice())
+    // The rules of the symbol of that number.
+    pub(crate) fn symbol_kept(&self, number: usize, symbol: &SymbolTable) -> bool
+        ensures { result ≡ tests.symbol_kept self.now.names self.now.symbols number (symbol_of symbol.now) }
+    {
+        symbol.parent.is_none_or(|parent| below(parent.0, number))
+            && !symbol.decls.is_empty()
+            && few(&symbol.decls)
+            && self.decls_kept(&symbol.decls)
+            && few(&symbol.exports)
+            && self.exports_kept(&symbol.exports)
+            && few(&symbol.members)
+            && self.members_known(&symbol.members)
     }
 }

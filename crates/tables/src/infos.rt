@@ -1,4 +1,5 @@
-// What is told of a record of the tables: itself, with the counts of the lists inside.
+// What is told of a record of the tables: itself, with the counts of the lists inside. These are functions and not
+// `From`: it would have to stand beside the tables, in the crate below, and say in a ghost member what is a clause here.
 ghost use Rattle.std.specs.Prelude.{◌≡◌};
 ghost use Rattle.host.specs.Program.{told_kind, told_decl, told_symbol, told_module, told_package};
 ghost use Rattle.table_rules.specs.Meaning.{kind_of, decl_of, symbol_of, module_of, package_of};
@@ -9,11 +10,9 @@ use table_rules::{DeclKindTable, DeclTable, ModuleTable, PackageTable, SymbolTab
 pub(crate) fn package_info(package: &PackageTable) -> PackageInfo
     ensures { result ≡ told_package (package_of «package».now) }
 {
-    let entries = match &package.entries {
-        None => None,
-        Some(entries) => Some(entries.len()),
-    };
-    PackageInfo { entries }
+    PackageInfo {
+        entries: package.entries.as_ref().map(Vec::len),
+    }
 }
 
 pub(crate) fn module_info(module: &ModuleTable) -> ModuleInfo

@@ -3,7 +3,6 @@
 
 mod infos;
 mod loading;
-mod lookups;
 mod refusals;
 mod tables_struct;
 mod telling;

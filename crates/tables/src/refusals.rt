@@ -1,11 +1,11 @@
-// Why tables are not loaded.
+// Why tables are not loaded: of its own, so that loading can answer nothing else.
 ghost use Rattle.std.specs.Prelude.{◌≡◌};
 ghost use Rattle.tables.specs.Refusals as spec;
 
 #[derive(Clone, Copy, PartialEq, Eq, Debug)]
 pub enum Refusal {
     // the tables break a rule of the records
-    BrokenRule,
+    BrokenRule = 1,
 }
 
 impl Refusal {
@@ -13,8 +13,6 @@ impl Refusal {
     pub fn number(self) -> u8
         ensures { result ≡ spec.number self }
     {
-        match self {
-            Refusal::BrokenRule => 1,
-        }
+        self as u8
     }
 }

@@ -1,13 +1,11 @@
 // Loaded tables as a host: each question is a look at a place. No call asks for memory.
-// Of a list a `match` asks, where `?` would do: it is proved in half the time.
-ghost use Rattle.std.specs.Prelude.{◌≡◌, length};
+ghost use Rattle.std.specs.Prelude.{◌≡◌};
 ghost use Rattle.std.specs.Option.{option_map};
 ghost use Rattle.host.specs.Lookups as at;
 ghost use Rattle.tables.specs.Loading as spec;
 ghost use Rattle.table_rules.specs.Meaning.{package_of, module_of, symbol_of, decl_of};
 
 use crate::infos::{decl_info, module_info, package_info, symbol_info};
-use crate::lookups::{at, copied_at};
 use crate::tables_struct::Tables;
 use host::{
     Dependency, Export, Host, ModuleInfo, PackageInfo, ReExportAll, SymbolDecl, SymbolInfo,
@@ -17,46 +15,28 @@ use ids::{ModuleId, PackageId, SymbolId};
 use table_rules::{DeclKindTable, DeclTable, ModuleTable, PackageTable, SymbolTable};
 
 impl Tables {
-    fn package_count(&self) -> usize
-        ensures { result ≡ length (spec.program self.now).packages }
-    {
-        self.table.packages.len()
-    }
-
-    fn module_count(&self) -> usize
-        ensures { result ≡ length (spec.program self.now).modules }
-    {
-        self.table.modules.len()
-    }
-
     fn package_table(&self, package: PackageId) -> Option<&PackageTable>
         ensures { option_map (λ x. package_of x.now) result ≡ at.package_at (spec.program self.now) «package» }
     {
-        at(self.table.packages.as_slice(), package.0 as usize)
+        self.table.packages.get(package.0 as usize)
     }
 
     fn module_table(&self, module: ModuleId) -> Option<&ModuleTable>
         ensures { option_map (λ x. module_of x.now) result ≡ at.module_at (spec.program self.now) «module» }
     {
-        at(self.table.modules.as_slice(), module.0 as usize)
+        self.table.modules.get(module.0 as usize)
     }
 
     fn symbol_table(&self, module: ModuleId, symbol: SymbolId) -> Option<&SymbolTable>
         ensures { option_map (λ x. symbol_of x.now) result ≡ at.symbol_at (spec.program self.now) «module» symbol }
     {
-        match self.module_table(module) {
-            None => None,
-            Some(module) => at(module.symbols.as_slice(), symbol.0 as usize),
-        }
+        self.module_table(module)?.symbols.get(symbol.0 as usize)
     }
 
     fn decl_table(&self, module: ModuleId, symbol: SymbolId, place: usize) -> Option<&DeclTable>
         ensures { option_map (λ x. decl_of x.now) result ≡ at.decl_at (spec.program self.now) «module» symbol place }
     {
-        match self.symbol_table(module, symbol) {
-            None => None,
-            Some(symbol) => at(symbol.decls.as_slice(), place),
-        }
+        self.symbol_table(module, symbol)?.decls.get(place)
     }
 }
 
@@ -70,11 +50,11 @@ impl Host for Tables {
     }
 
     fn packages(&self) -> usize {
-        self.package_count()
+        self.table.packages.len()
     }
 
     fn modules(&self) -> usize {
-        self.module_count()
+        self.table.modules.len()
     }
 
     fn package(&self, package: PackageId) -> Option<PackageInfo> {
@@ -82,14 +62,8 @@ impl Host for Tables {
     }
 
     fn entry(&self, package: PackageId, place: usize) -> Option<ModuleId> {
-        match self.package_table(package) {
-            Some(
-                PackageTable {
-                    entries: Some(entries),
-                },
-            ) => copied_at(entries.as_slice(), place),
-            _ => None,
-        }
+        let entries = self.package_table(package)?.entries.as_ref()?;
+        entries.get(place).copied()
     }
 
     fn module(&self, module: ModuleId) -> Option<ModuleInfo> {
@@ -97,17 +71,13 @@ impl Host for Tables {
     }
 
     fn dependency(&self, module: ModuleId, place: usize) -> Option<Dependency> {
-        match self.module_table(module) {
-            None => None,
-            Some(module) => copied_at(module.dependencies.as_slice(), place),
-        }
+        let module = self.module_table(module)?;
+        module.dependencies.get(place).copied()
     }
 
     fn re_export_all(&self, module: ModuleId, place: usize) -> Option<ReExportAll> {
-        match self.module_table(module) {
-            None => None,
-            Some(module) => copied_at(module.re_export_alls.as_slice(), place),
-        }
+        let module = self.module_table(module)?;
+        module.re_export_alls.get(place).copied()
     }
 
     fn symbol(&self, module: ModuleId, symbol: SymbolId) -> Option<SymbolInfo> {
@@ -115,17 +85,13 @@ impl Host for Tables {
     }
 
     fn export(&self, module: ModuleId, symbol: SymbolId, place: usize) -> Option<Export> {
-        match self.symbol_table(module, symbol) {
-            None => None,
-            Some(symbol) => copied_at(symbol.exports.as_slice(), place),
-        }
+        let symbol = self.symbol_table(module, symbol)?;
+        symbol.exports.get(place).copied()
     }
 
     fn member(&self, module: ModuleId, symbol: SymbolId, place: usize) -> Option<SymbolId> {
-        match self.symbol_table(module, symbol) {
-            None => None,
-            Some(symbol) => copied_at(symbol.members.as_slice(), place),
-        }
+        let symbol = self.symbol_table(module, symbol)?;
+        symbol.members.get(place).copied()
     }
 
     fn decl(&self, module: ModuleId, symbol: SymbolId, place: usize) -> Option<SymbolDecl> {
@@ -139,14 +105,9 @@ impl Host for Tables {
         decl: usize,
         place: usize,
     ) -> Option<SymbolNodeDep> {
-        match self.decl_table(module, symbol, decl) {
-            Some(
-                DeclTable {
-                    kind: DeclKindTable::Definition(_, deps),
-                    ..
-                },
-            ) => copied_at(deps.as_slice(), place),
-            _ => None,
-        }
+        let DeclKindTable::Definition(_, deps) = &self.decl_table(module, symbol, decl)?.kind else {
+            return None;
+        };
+        deps.get(place).copied()
     }
 }

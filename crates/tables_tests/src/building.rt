@@ -5,6 +5,7 @@ use host::{
 };
 use ids::{ModuleId, NameId, PackageId, SymbolId};
 use std::alloc::{AllocError, Global};
+use std::iter;
 use tables::{DeclKindTable, DeclTable, ModuleTable, PackageTable, ProgramTable, SymbolTable};
 
 // The last package, the last module and its last symbol are as the sketch says; what stands before them is plain:
@@ -28,6 +29,7 @@ pub struct Sketch {
     pub dep: SymbolNodeDep,
 }
 
+// A constant, since the plain sketch is one: `default()` cannot be called there.
 pub const NO_FLAGS: SymbolDeclFlags = SymbolDeclFlags {
     overloads: false,
     body: false,
@@ -39,107 +41,33 @@ pub const NO_FLAGS: SymbolDeclFlags = SymbolDeclFlags {
     scope: false,
 };
 
-fn dependencies(heap: Global, s: &Sketch) -> Result<Vec<Dependency>, AllocError> {
-    let mut list = Vec::new(heap);
-    let mut dependency = s.dependency;
-    let mut specifier = 1u32;
-    for _ in 0..s.module.dependencies {
-        list.push(dependency)?;
-        dependency = Dependency {
-            specifier: NameId(specifier),
-            target: None,
-        };
-        specifier = specifier.saturating_add(1);
-    }
-    Ok(list)
-}
-
-fn exports(heap: Global, s: &Sketch) -> Result<Vec<Export>, AllocError> {
-    let mut list = Vec::new(heap);
-    let mut export = s.export;
-    let mut name = 1u32;
-    for _ in 0..s.symbol.exports {
-        list.push(export)?;
-        export = Export {
-            name: NameId(name),
-            symbol: SymbolId(0),
-        };
-        name = name.saturating_add(1);
-    }
-    Ok(list)
-}
-
-fn decl(heap: Global, s: &Sketch) -> Result<DeclTable, AllocError> {
-    let kind = match s.decl.kind {
-        SymbolDeclKind::Target(symbol) => DeclKindTable::Target(symbol),
-        SymbolDeclKind::QualifiedTarget(symbol, path) => {
-            DeclKindTable::QualifiedTarget(symbol, path)
-        }
-        SymbolDeclKind::FileRef(file) => DeclKindTable::FileRef(file),
-        SymbolDeclKind::Definition(kind, deps) => {
-            DeclKindTable::Definition(kind, vec![in heap; s.dep; deps]?)
-        }
-    };
-    Ok(DeclTable {
-        range: s.decl.range,
-        name: s.decl.name,
-        flags: s.decl.flags,
-        kind,
-    })
-}
-
-fn decls(heap: Global, s: &Sketch) -> Result<Vec<DeclTable>, AllocError> {
-    let mut list = Vec::new(heap);
-    for _ in 0..s.symbol.decls {
-        list.push(decl(heap, s)?)?;
-    }
-    Ok(list)
-}
-
-fn symbol(heap: Global, s: &Sketch) -> Result<SymbolTable, AllocError> {
-    Ok(SymbolTable {
-        parent: s.symbol.parent,
-        decls: decls(heap, s)?,
-        exports: exports(heap, s)?,
-        members: vec![in heap; s.member; s.symbol.members]?,
-    })
+// So many elements: the first is handed in, and those after it are made of the numbers 1, 2, ..
+fn numbered<T: Drop, F: Fn(u32) -> T + Drop>(
+    heap: Global,
+    count: usize,
+    first: T,
+    other: F,
+) -> Result<Vec<T>, AllocError>
+    requires { (state : F) (x : _) → F.pre state x }
+{
+    iter::once(first)
+        .chain((1..u32::MAX).map(other))
+        .take(count)
+        .collect(heap)
 }
 
 fn plain_symbol(heap: Global) -> Result<SymbolTable, AllocError> {
-    let mut decls = Vec::new(heap);
-    decls.push(DeclTable {
+    let decl = DeclTable {
         range: SourceRange { start: 0, end: 0 },
         name: None,
-        flags: NO_FLAGS,
+        flags: SymbolDeclFlags::default(),
         kind: DeclKindTable::Target(None),
-    })?;
+    };
     Ok(SymbolTable {
         parent: None,
-        decls,
+        decls: vec![in heap; decl]?,
         exports: Vec::new(heap),
         members: Vec::new(heap),
-    })
-}
-
-fn symbols(heap: Global, s: &Sketch) -> Result<Vec<SymbolTable>, AllocError> {
-    let mut list = Vec::new(heap);
-    for _ in 1..s.module.symbols {
-        list.push(plain_symbol(heap)?)?;
-    }
-    if s.module.symbols > 0 {
-        list.push(symbol(heap, s)?)?;
-    }
-    Ok(list)
-}
-
-fn module(heap: Global, s: &Sketch) -> Result<ModuleTable, AllocError> {
-    Ok(ModuleTable {
-        kind: s.module.kind,
-        package: s.module.package,
-        types: s.module.types,
-        dependencies: dependencies(heap, s)?,
-        re_export_alls: vec![in heap; s.re_export_all; s.module.re_export_alls]?,
-        symbols: symbols(heap, s)?,
     })
 }
 
@@ -154,40 +82,117 @@ fn plain_module(heap: Global, package: Option<PackageId>) -> ModuleTable {
     }
 }
 
-// Module 0 is of package 0, and the other plain ones are of none.
-fn modules(heap: Global, s: &Sketch) -> Result<Vec<ModuleTable>, AllocError> {
-    let mut list = Vec::new(heap);
-    let mut package = Some(PackageId(0));
-    for _ in 1..s.modules {
-        list.push(plain_module(heap, package))?;
-        package = None;
+impl Sketch {
+    fn dependencies(&self, heap: Global) -> Result<Vec<Dependency>, AllocError> {
+        numbered(
+            heap,
+            self.module.dependencies,
+            self.dependency,
+            |n| Dependency {
+                specifier: NameId(n),
+                target: None,
+            },
+        )
     }
-    list.push(module(heap, s)?)?;
-    Ok(list)
-}
 
-fn entries(heap: Global, s: &Sketch) -> Result<Option<Vec<ModuleId>>, AllocError> {
-    match s.package.entries {
-        None => Ok(None),
-        Some(count) => Ok(Some(vec![in heap; s.entry; count]?)),
+    fn exports(&self, heap: Global) -> Result<Vec<Export>, AllocError> {
+        numbered(
+            heap,
+            self.symbol.exports,
+            self.export,
+            |n| Export {
+                name: NameId(n),
+                symbol: SymbolId(0),
+            },
+        )
     }
-}
 
-fn packages(heap: Global, s: &Sketch) -> Result<Vec<PackageTable>, AllocError> {
-    let mut list = Vec::new(heap);
-    for _ in 1..s.packages {
-        list.push(PackageTable { entries: None })?;
+    fn decl(&self, heap: Global) -> Result<DeclTable, AllocError> {
+        let kind = match self.decl.kind {
+            SymbolDeclKind::Target(symbol) => DeclKindTable::Target(symbol),
+            SymbolDeclKind::QualifiedTarget(symbol, path) => {
+                DeclKindTable::QualifiedTarget(symbol, path)
+            }
+            SymbolDeclKind::FileRef(file) => DeclKindTable::FileRef(file),
+            SymbolDeclKind::Definition(kind, deps) => {
+                DeclKindTable::Definition(kind, vec![in heap; self.dep; deps]?)
+            }
+        };
+        Ok(DeclTable {
+            range: self.decl.range,
+            name: self.decl.name,
+            flags: self.decl.flags,
+            kind,
+        })
     }
-    list.push(PackageTable {
-        entries: entries(heap, s)?,
-    })?;
-    Ok(list)
-}
 
-pub(crate) fn program(heap: Global, s: &Sketch) -> Result<ProgramTable, AllocError> {
-    Ok(ProgramTable {
-        names: s.names,
-        packages: packages(heap, s)?,
-        modules: modules(heap, s)?,
-    })
+    fn decls(&self, heap: Global) -> Result<Vec<DeclTable>, AllocError> {
+        (0..self.symbol.decls)
+            .map(|_| self.decl(heap))
+            .try_collect(heap)
+    }
+
+    fn symbol(&self, heap: Global) -> Result<SymbolTable, AllocError> {
+        Ok(SymbolTable {
+            parent: self.symbol.parent,
+            decls: self.decls(heap)?,
+            exports: self.exports(heap)?,
+            members: vec![in heap; self.member; self.symbol.members]?,
+        })
+    }
+
+    fn symbols(&self, heap: Global) -> Result<Vec<SymbolTable>, AllocError> {
+        let mut list: Vec<SymbolTable> = (1..self.module.symbols)
+            .map(|_| plain_symbol(heap))
+            .try_collect(heap)?;
+        if self.module.symbols > 0 {
+            list.push(self.symbol(heap)?)?;
+        }
+        Ok(list)
+    }
+
+    fn module(&self, heap: Global) -> Result<ModuleTable, AllocError> {
+        Ok(ModuleTable {
+            kind: self.module.kind,
+            package: self.module.package,
+            types: self.module.types,
+            dependencies: self.dependencies(heap)?,
+            re_export_alls: vec![in heap; self.re_export_all; self.module.re_export_alls]?,
+            symbols: self.symbols(heap)?,
+        })
+    }
+
+    // Module 0 is of package 0, and the other plain ones are of none.
+    fn modules(&self, heap: Global) -> Result<Vec<ModuleTable>, AllocError> {
+        let mut list: Vec<ModuleTable> = (1..self.modules)
+            .map(|count| plain_module(heap, (count == 1).then_some(PackageId(0))))
+            .collect(heap)?;
+        list.push(self.module(heap)?)?;
+        Ok(list)
+    }
+
+    fn entries(&self, heap: Global) -> Result<Option<Vec<ModuleId>>, AllocError> {
+        self.package
+            .entries
+            .map(|count| vec![in heap; self.entry; count])
+            .transpose()
+    }
+
+    fn packages(&self, heap: Global) -> Result<Vec<PackageTable>, AllocError> {
+        let mut list: Vec<PackageTable> = (1..self.packages)
+            .map(|_| PackageTable { entries: None })
+            .collect(heap)?;
+        list.push(PackageTable {
+            entries: self.entries(heap)?,
+        })?;
+        Ok(list)
+    }
+
+    pub(crate) fn program(&self, heap: Global) -> Result<ProgramTable, AllocError> {
+        Ok(ProgramTable {
+            names: self.names,
+            packages: self.packages(heap)?,
+            modules: self.modules(heap)?,
+        })
+    }
 }

@@ -78,32 +78,27 @@ pub const PLAIN: Sketch = Sketch {
     dep: SymbolNodeDep::Id(None, ReferenceNamespace::Both),
 };
 
-pub trait Case {
-    // The plain program, with the change of this case.
-    fn sketch(&self) -> Sketch;
+pub(crate) fn loads(heap: Global, case: &Sketch) -> Result<bool, AllocError> {
+    Ok(Tables::load(case.program(heap)?).is_ok())
 }
 
-pub(crate) fn loads<C: Case>(heap: Global, case: &C) -> Result<bool, AllocError> {
-    let table = program(heap, &case.sketch())?;
-    Ok(Tables::load(table).is_ok())
+// Each of the cases is loaded, or else each is refused.
+fn each(heap: Global, cases: &[Sketch], is_loaded: bool) -> Result<(), Fail> {
+    let how = if is_loaded { "loaded" } else { "refused" };
+    for (i, case) in cases.iter().enumerate() {
+        if loads(heap, case)? != is_loaded {
+            return Err(Fail::new(format_args!("case {i} of those that are {how}")));
+        }
+    }
+    Ok(())
 }
 
 // Each of the cases keeps the rules.
-pub(crate) fn loaded<C: Case>(heap: Global, cases: &[C]) -> Result<(), Fail> {
-    for (i, case) in cases.iter().enumerate() {
-        if !loads(heap, case)? {
-            return Err(Fail::new(format_args!("case {i} of those that are loaded")));
-        }
-    }
-    Ok(())
+pub(crate) fn loaded(heap: Global, cases: &[Sketch]) -> Result<(), Fail> {
+    each(heap, cases, true)
 }
 
 // Each of the cases breaks a rule.
-pub(crate) fn refused<C: Case>(heap: Global, cases: &[C]) -> Result<(), Fail> {
-    for (i, case) in cases.iter().enumerate() {
-        if loads(heap, case)? {
-            return Err(Fail::new(format_args!("case {i} of those that are refused")));
-        }
-    }
-    Ok(())
+pub(crate) fn refused(heap: Global, cases: &[Sketch]) -> Result<(), Fail> {
+    each(heap, cases, false)
 }

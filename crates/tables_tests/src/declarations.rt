@@ -9,38 +9,39 @@ use ids::{NameId, PATH_LIMIT, Path};
 use std::alloc::Global;
 use std::test::Fail;
 
-#[derive(Clone, Copy)]
-enum Change {
-    Range(SourceRange),
-    Name(Option<NameId>),
-    // what the declaration is, with these flags
-    Kind(SymbolDeclKind, SymbolDeclFlags),
-    // a definition with so many references
-    Deps(usize),
-    Dep(SymbolNodeDep),
+fn range(range: SourceRange) -> Sketch {
+    let mut s = PLAIN;
+    s.decl.range = range;
+    s
 }
 
-impl Case for Change {
-    fn sketch(&self) -> Sketch {
-        let mut s = PLAIN;
-        match *self {
-            Change::Range(range) => s.decl.range = range,
-            Change::Name(name) => s.decl.name = name,
-            Change::Kind(kind, flags) => {
-                s.decl.kind = kind;
-                s.decl.flags = flags;
-            }
-            Change::Deps(count) => {
-                s.decl.kind = SymbolDeclKind::Definition(NodeKind::ClassDecl, count);
-            }
-            Change::Dep(dep) => s.dep = dep,
-        }
-        s
-    }
+fn name(name: Option<NameId>) -> Sketch {
+    let mut s = PLAIN;
+    s.decl.name = name;
+    s
 }
 
-fn kind(kind: SymbolDeclKind) -> Change {
-    Change::Kind(kind, NO_FLAGS)
+// What the declaration is, with these flags.
+fn flagged(kind: SymbolDeclKind, flags: SymbolDeclFlags) -> Sketch {
+    let mut s = PLAIN;
+    s.decl.kind = kind;
+    s.decl.flags = flags;
+    s
+}
+
+// A definition with so many references.
+fn deps(count: usize) -> Sketch {
+    kind(SymbolDeclKind::Definition(NodeKind::ClassDecl, count))
+}
+
+fn dep(dep: SymbolNodeDep) -> Sketch {
+    let mut s = PLAIN;
+    s.dep = dep;
+    s
+}
+
+fn kind(kind: SymbolDeclKind) -> Sketch {
+    flagged(kind, NO_FLAGS)
 }
 
 fn file(name: FileDepName, specifier: NameId) -> SymbolDeclKind {
@@ -51,16 +52,9 @@ fn file(name: FileDepName, specifier: NameId) -> SymbolDeclKind {
 fn ranges_and_names(rt: HostRuntime) -> Result<(), Fail> {
     loaded(
         rt.alloc(),
-        &[
-            Change::Range(WHOLE),
-            Change::Name(None),
-            Change::Name(Some(LAST_NAME)),
-        ],
+        &[range(WHOLE), name(None), name(Some(LAST_NAME))],
     )?;
-    refused(
-        rt.alloc(),
-        &[Change::Range(BACKWARD), Change::Name(Some(NO_NAME))],
-    )
+    refused(rt.alloc(), &[range(BACKWARD), name(Some(NO_NAME))])
 }
 
 #[test]
@@ -104,30 +98,51 @@ fn files(rt: HostRuntime) -> Result<(), Fail> {
     )
 }
 
-// The flags of which only that one is set.
-fn flag(i: usize) -> SymbolDeclFlags {
+// For each flag, the flags of which only that one is set.
+const FLAGS: [SymbolDeclFlags; 8] = [
     SymbolDeclFlags {
-        overloads: i == 0,
-        body: i == 1,
-        export: i == 2,
-        private: i == 3,
-        member: i == 4,
-        function: i == 5,
-        class: i == 6,
-        scope: i == 7,
-    }
-}
+        overloads: true,
+        ..NO_FLAGS
+    },
+    SymbolDeclFlags {
+        body: true,
+        ..NO_FLAGS
+    },
+    SymbolDeclFlags {
+        export: true,
+        ..NO_FLAGS
+    },
+    SymbolDeclFlags {
+        private: true,
+        ..NO_FLAGS
+    },
+    SymbolDeclFlags {
+        member: true,
+        ..NO_FLAGS
+    },
+    SymbolDeclFlags {
+        function: true,
+        ..NO_FLAGS
+    },
+    SymbolDeclFlags {
+        class: true,
+        ..NO_FLAGS
+    },
+    SymbolDeclFlags {
+        scope: true,
+        ..NO_FLAGS
+    },
+];
 
-fn flags_stand(heap: Global, i: usize) -> Result<(), Fail> {
-    let flags = flag(i);
+fn flags_stand(heap: Global, i: usize, flags: SymbolDeclFlags) -> Result<(), Fail> {
     let path = Path::single(LAST_NAME);
     let definition = SymbolDeclKind::Definition(NodeKind::Var, 0);
     let cases = [
-        Change::Kind(SymbolDeclKind::Target(None), flags),
-        Change::Kind(SymbolDeclKind::QualifiedTarget(None, path), flags),
-        Change::Kind(file(FileDepName::Star, LAST_NAME), flags),
+        flagged(SymbolDeclKind::Target(None), flags),
+        flagged(SymbolDeclKind::QualifiedTarget(None, path), flags),
+        flagged(file(FileDepName::Star, LAST_NAME), flags),
     ];
-    if !loads(heap, &Change::Kind(definition, flags))? {
+    if !loads(heap, &flagged(definition, flags))? {
         return Err(Fail::new(format_args!("flag {i} on a definition")));
     }
     for (k, case) in cases.iter().enumerate() {
@@ -140,16 +155,16 @@ fn flags_stand(heap: Global, i: usize) -> Result<(), Fail> {
 
 #[test]
 fn each_flag_stands_on_definitions_alone(rt: HostRuntime) -> Result<(), Fail> {
-    for i in 0..8usize {
-        flags_stand(rt.alloc(), i)?;
+    for (i, flags) in FLAGS.iter().enumerate() {
+        flags_stand(rt.alloc(), i, *flags)?;
     }
     Ok(())
 }
 
 #[test]
 fn references_are_not_too_many(rt: HostRuntime) -> Result<(), Fail> {
-    loaded(rt.alloc(), &[Change::Deps(0), Change::Deps(4096)])?;
-    refused(rt.alloc(), &[Change::Deps(4097)])
+    loaded(rt.alloc(), &[deps(0), deps(4096)])?;
+    refused(rt.alloc(), &[deps(4097)])
 }
 
 #[test]
@@ -160,18 +175,18 @@ fn references_to_symbols(rt: HostRuntime) -> Result<(), Fail> {
     loaded(
         rt.alloc(),
         &[
-            Change::Dep(SymbolNodeDep::Id(None, by)),
-            Change::Dep(SymbolNodeDep::Id(Some(LAST_SYMBOL), by)),
-            Change::Dep(SymbolNodeDep::QualifiedId(None, known)),
-            Change::Dep(SymbolNodeDep::QualifiedId(Some(LAST_SYMBOL), known)),
+            dep(SymbolNodeDep::Id(None, by)),
+            dep(SymbolNodeDep::Id(Some(LAST_SYMBOL), by)),
+            dep(SymbolNodeDep::QualifiedId(None, known)),
+            dep(SymbolNodeDep::QualifiedId(Some(LAST_SYMBOL), known)),
         ],
     )?;
     refused(
         rt.alloc(),
         &[
-            Change::Dep(SymbolNodeDep::Id(Some(NO_SYMBOL), by)),
-            Change::Dep(SymbolNodeDep::QualifiedId(Some(NO_SYMBOL), known)),
-            Change::Dep(SymbolNodeDep::QualifiedId(None, unknown)),
+            dep(SymbolNodeDep::Id(Some(NO_SYMBOL), by)),
+            dep(SymbolNodeDep::QualifiedId(Some(NO_SYMBOL), known)),
+            dep(SymbolNodeDep::QualifiedId(None, unknown)),
         ],
     )
 }
@@ -183,16 +198,16 @@ fn import_types(rt: HostRuntime) -> Result<(), Fail> {
     loaded(
         rt.alloc(),
         &[
-            Change::Dep(SymbolNodeDep::ImportType(LAST_NAME, None)),
-            Change::Dep(SymbolNodeDep::ImportType(LAST_NAME, known)),
+            dep(SymbolNodeDep::ImportType(LAST_NAME, None)),
+            dep(SymbolNodeDep::ImportType(LAST_NAME, known)),
         ],
     )?;
     refused(
         rt.alloc(),
         &[
-            Change::Dep(SymbolNodeDep::ImportType(NO_NAME, None)),
-            Change::Dep(SymbolNodeDep::ImportType(NO_NAME, known)),
-            Change::Dep(SymbolNodeDep::ImportType(LAST_NAME, unknown)),
+            dep(SymbolNodeDep::ImportType(NO_NAME, None)),
+            dep(SymbolNodeDep::ImportType(NO_NAME, known)),
+            dep(SymbolNodeDep::ImportType(LAST_NAME, unknown)),
         ],
     )
 }

@@ -5,43 +5,48 @@ use host::Export;
 use ids::{NameId, SymbolId};
 use std::test::Fail;
 
-#[derive(Clone, Copy)]
-enum Change {
-    Parent(Option<SymbolId>),
-    Decls(usize),
-    Exports(usize),
-    Members(usize),
-    Export(NameId, SymbolId),
-    Member(SymbolId),
+fn parent(parent: Option<SymbolId>) -> Sketch {
+    let mut s = PLAIN;
+    s.symbol.parent = parent;
+    s
 }
 
-impl Case for Change {
-    fn sketch(&self) -> Sketch {
-        let mut s = PLAIN;
-        match *self {
-            Change::Parent(parent) => s.symbol.parent = parent,
-            Change::Decls(decls) => s.symbol.decls = decls,
-            Change::Exports(exports) => s.symbol.exports = exports,
-            Change::Members(members) => s.symbol.members = members,
-            Change::Export(name, symbol) => s.export = Export { name, symbol },
-            Change::Member(member) => s.member = member,
-        }
-        s
-    }
+fn decls(decls: usize) -> Sketch {
+    let mut s = PLAIN;
+    s.symbol.decls = decls;
+    s
+}
+
+fn exports(exports: usize) -> Sketch {
+    let mut s = PLAIN;
+    s.symbol.exports = exports;
+    s
+}
+
+fn members(members: usize) -> Sketch {
+    let mut s = PLAIN;
+    s.symbol.members = members;
+    s
+}
+
+fn export(name: NameId, symbol: SymbolId) -> Sketch {
+    let mut s = PLAIN;
+    s.export = Export { name, symbol };
+    s
+}
+
+fn member(member: SymbolId) -> Sketch {
+    let mut s = PLAIN;
+    s.member = member;
+    s
 }
 
 #[test]
 fn parents_are_lower(rt: HostRuntime) -> Result<(), Fail> {
-    loaded(
-        rt.alloc(),
-        &[Change::Parent(None), Change::Parent(Some(SymbolId(0)))],
-    )?;
+    loaded(rt.alloc(), &[parent(None), parent(Some(SymbolId(0)))])?;
     refused(
         rt.alloc(),
-        &[
-            Change::Parent(Some(LAST_SYMBOL)),
-            Change::Parent(Some(NO_SYMBOL)),
-        ],
+        &[parent(Some(LAST_SYMBOL)), parent(Some(NO_SYMBOL))],
     )
 }
 
@@ -50,23 +55,18 @@ fn lists_of_a_symbol_are_not_too_long(rt: HostRuntime) -> Result<(), Fail> {
     loaded(
         rt.alloc(),
         &[
-            Change::Decls(1),
-            Change::Decls(4096),
-            Change::Exports(0),
-            Change::Exports(4096),
-            Change::Members(0),
-            Change::Members(2),
-            Change::Members(4096),
+            decls(1),
+            decls(4096),
+            exports(0),
+            exports(4096),
+            members(0),
+            members(2),
+            members(4096),
         ],
     )?;
     refused(
         rt.alloc(),
-        &[
-            Change::Decls(0),
-            Change::Decls(4097),
-            Change::Exports(4097),
-            Change::Members(4097),
-        ],
+        &[decls(0), decls(4097), exports(4097), members(4097)],
     )
 }
 
@@ -76,18 +76,18 @@ fn exports_and_members(rt: HostRuntime) -> Result<(), Fail> {
     loaded(
         rt.alloc(),
         &[
-            Change::Export(NameId(2), SymbolId(0)),
-            Change::Export(LAST_NAME, LAST_SYMBOL),
-            Change::Member(LAST_SYMBOL),
+            export(NameId(2), SymbolId(0)),
+            export(LAST_NAME, LAST_SYMBOL),
+            member(LAST_SYMBOL),
         ],
     )?;
     refused(
         rt.alloc(),
         &[
-            Change::Export(NameId(1), SymbolId(0)),
-            Change::Export(NO_NAME, SymbolId(0)),
-            Change::Export(NameId(0), NO_SYMBOL),
-            Change::Member(NO_SYMBOL),
+            export(NameId(1), SymbolId(0)),
+            export(NO_NAME, SymbolId(0)),
+            export(NameId(0), NO_SYMBOL),
+            member(NO_SYMBOL),
         ],
     )
 }

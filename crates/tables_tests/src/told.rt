@@ -8,7 +8,7 @@ use std::test::Fail;
 use tables::{Refusal, Tables};
 
 fn tables_of(heap: Global, s: &Sketch) -> Result<Tables, Fail> {
-    Ok(Tables::load(program(heap, s)?)?)
+    Ok(Tables::load(s.program(heap)?)?)
 }
 
 fn counts_told(t: &Tables) -> bool {
@@ -40,25 +40,19 @@ fn places_told(t: &Tables) -> bool {
 }
 
 fn module_told(t: &Tables) -> bool {
-    match t.module(LAST_MODULE) {
-        Some(module) => {
-            module.package == Some(LAST_PACKAGE)
-                && module.types == None
-                && module.dependencies == 2
-                && module.re_export_alls == 1
-                && module.symbols == 2
-        }
-        None => false,
-    }
+    t.module(LAST_MODULE).is_some_and(|module| {
+        module.package == Some(LAST_PACKAGE)
+            && module.types == None
+            && module.dependencies == 2
+            && module.re_export_alls == 1
+            && module.symbols == 2
+    })
 }
 
 fn symbol_told(t: &Tables) -> bool {
-    match t.symbol(LAST_MODULE, LAST_SYMBOL) {
-        Some(symbol) => {
-            symbol.parent == None && symbol.decls == 1 && symbol.exports == 2 && symbol.members == 1
-        }
-        None => false,
-    }
+    t.symbol(LAST_MODULE, LAST_SYMBOL).is_some_and(|symbol| {
+        symbol.parent == None && symbol.decls == 1 && symbol.exports == 2 && symbol.members == 1
+    })
 }
 
 #[test]

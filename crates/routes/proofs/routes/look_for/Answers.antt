@@ -1,47 +1,55 @@
-use Rattle.std.proofs.Common.{◌≡◌, ◌<◌, [], ◌∷◌, ◌++◌, length, Some, vec_items, sym, ap, ◌∙◌, subst, arith, length-append}
-use Rattle.std.proofs.lemmas.Option.{slice_get_read}
-use Rattle.std.specs.List.{slice_get}
+use Rattle.std.proofs.Common.{length, vec_items, sym, ap, ◌∙◌, subst, arith, length-append}
+use Rattle.std.proofs.lemmas.Option.{slice_get_within}
+use Rattle.resolution.proofs.Places.{nth_none}
 use Rattle.offering.proofs.Ending.{missing}
-use Rattle.routes.specs.Reach.{modules_in}
-use Rattle.routes.specs.Routes.{start_of, Searching}
-use Rattle.routes.proofs.Searching.{search_begins, search_goes_on, fresh_fewer}
+use Rattle.routes.specs.Reach.{modules_in, Spread}
+use Rattle.routes.specs.Routes.{start_of, Trail}
+use Rattle.routes.proofs.Searching.{search_goes_on, fresh_fewer, nothing_offered, trail_route}
 use Rattle.routes.proofs.routes.look_for.Goals as goal
 
 pub returns-then-exports : goal.returns-then-exports
 returns-then-exports g c =
-    let began = c.in_ok-push.ensures.items ∙ ap (λ l. l ++ start_of c.args.start ∷ []) c.new-reached.ensures.items in
-    let there = slice_get_read (vec_items c.loop-turn.reached) c.len.result c.loop-turn.turn c.index.result.now (c.len.ensures ∙ c.loop-turn.reached.ok.0) c.loop-turn-test.true c.index.ensures in
-    record { turn = c.loop-turn.turn; searching = c.loop-turn.invariant c.args.start (ap (λ l. slice_get l 0) began); ended = (c.index.result.now, there, sym c.exports.ensures.value ∙ c.if-exports.true) }
-
-pub loop-turn-init : goal.loop-turn-init
-loop-turn-init g c start is =
     let p = g.H.Host.program c.args.host.now in
-    let began = c.in_ok-push.ensures.items ∙ ap (λ l. l ++ start_of c.args.start ∷ []) c.new-reached.ensures.items in
-    let two : Some (start_of c.args.start) ≡ Some (start_of start) = sym (ap (λ l. slice_get l 0) began) ∙ is in
-    let one : start_of c.args.start ≡ start_of start = cc in
-    let same : c.args.start ≡ start = ap (λ r. r.«module») one in
-    subst (λ l. Searching p c.args.name start l 0) (sym (began ∙ ap (λ s. start_of s ∷ []) same)) (search_begins p c.args.name start)
+    let f = c.args.name in
+    let rs = vec_items c.loop-one.search.reached in
+    let turn = c.loop-one.turn in
+    let inv = c.loop-one.invariant in
+    let there = sym c.reached_at.ensures ∙ c.in-Some.is in
+    let trail = subst (λ l. Trail l turn 0 (vec_items c.in_ok-trail.field-0)) c.as_slice.ensures.value c.in_ok-trail.ensures in
+    trail_route p f c.args.start rs turn turn 0 c.in-Some.one (start_of c.args.start) (vec_items c.in_ok-trail.field-0) c.requires inv.searching there (sym c.exports.ensures.value ∙ c.if-exports.true) trail inv.searching.first
 
-pub loop-turn-smaller : goal.loop-turn-smaller
-loop-turn-smaller g c =
+pub overflow_add-turn : goal.overflow_add-turn
+overflow_add-turn g c = omega (arith, slice_get_within (vec_items c.loop-one.search.reached) c.loop-one.turn c.in-Some.one (sym c.reached_at.ensures ∙ c.in-Some.is))
+
+pub loop-one-smaller : goal.loop-one-smaller
+loop-one-smaller g c =
     let p = g.H.Host.program c.args.host.now in
-    let rs = vec_items c.loop-turn.reached in
-    let after = vec_items c.spread.new.reached in
-    let spread = c.in_ok-spread.ensures in
+    let rs = vec_items c.loop-one.search.reached in
+    let turn = c.loop-one.turn in
+    let there = sym c.reached_at.ensures ∙ c.in-Some.is in
+    let spread = subst (λ h. Spread (g.H.Host.program h) c.in-Some.one.«module» turn (λ i. Unit {0}) rs (vec_items c.spread.new.self.reached)) c.loop-one.invariant.same_host c.in_ok-spread.ensures.spread in
     let fewer = fresh_fewer p rs spread.new spread.fresh in
     let grown = ap (λ l. missing (length p.modules) (modules_in l)) spread.grown in
     let long = ap length spread.grown ∙ length-append rs spread.new in
-    let inside : c.loop-turn.turn < length rs = omega (arith, c.loop-turn-test.true, c.len.ensures, c.loop-turn.reached.ok.0) in
+    let inside = slice_get_within rs turn c.in-Some.one there in
     omega (arith, fewer, grown, long, inside)
 
-pub loop-turn-preserved : goal.loop-turn-preserved
-loop-turn-preserved g c start is =
+pub loop-one-preserved : goal.loop-one-preserved
+loop-one-preserved g c =
     let p = g.H.Host.program c.args.host.now in
-    let rs = vec_items c.loop-turn.reached in
-    let there = slice_get_read rs c.len.result c.loop-turn.turn c.index.result.now (c.len.ensures ∙ c.loop-turn.reached.ok.0) c.loop-turn-test.true c.index.ensures in
-    search_goes_on p c.args.name start rs (vec_items c.spread.new.reached) c.loop-turn.turn c.index.result.now (c.loop-turn.invariant start is) there (sym c.exports.ensures.value ∙ c.if-exports.false) c.in_ok-spread.ensures
+    let rs = vec_items c.loop-one.search.reached in
+    let turn = c.loop-one.turn in
+    let inv = c.loop-one.invariant in
+    let there = sym c.reached_at.ensures ∙ c.in-Some.is in
+    let spread = subst (λ h. Spread (g.H.Host.program h) c.in-Some.one.«module» turn (λ i. Unit {0}) rs (vec_items c.spread.new.self.reached)) inv.same_host c.in_ok-spread.ensures.spread in
+    record {
+      same_host = c.in_ok-spread.ensures.same_host ∙ inv.same_host;
+      searching = search_goes_on p c.args.name c.args.start rs (vec_items c.spread.new.self.reached) turn c.in-Some.one inv.searching there (sym c.exports.ensures.value ∙ c.if-exports.false) spread;
+    }
 
 pub returns : goal.returns
 returns g c =
-    let began = c.in_ok-push.ensures.items ∙ ap (λ l. l ++ start_of c.args.start ∷ []) c.new-reached.ensures.items in
-    record { turn = c.loop-turn.turn; searching = c.loop-turn.invariant c.args.start (ap (λ l. slice_get l 0) began); ended = omega (arith, c.loop-turn-test.false, c.len.ensures, c.loop-turn.reached.ok.0) }
+    let p = g.H.Host.program c.args.host.now in
+    let rs = vec_items c.loop-one.search.reached in
+    let over = nth_none rs c.loop-one.turn (sym c.reached_at.ensures ∙ c.in_default.is) in
+    nothing_offered p c.args.name c.args.start rs c.loop-one.turn c.requires c.loop-one.invariant.searching over

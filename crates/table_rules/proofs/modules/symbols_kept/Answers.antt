@@ -1,9 +1,11 @@
-use Rattle.std.proofs.Common.{rules}
-use Rattle.table_rules.proofs.TableFacts.{symbols_told}
+use Rattle.std.proofs.Common.{rules, tests}
+use Rattle.std.proofs.lemmas.Iterator.{YieldsList-from_slice}
+use Rattle.std.proofs.lemmas.Iterator.Consumers.{YieldsList-from_enumerate}
+use Rattle.std.proofs.lemmas.Iterator.Search.{all_from_yields_List}
+use Rattle.std.proofs.lemmas.List.{length-map}
+use Rattle.table_rules.specs.Meaning.{symbol_of}
+use Rattle.table_rules.proofs.ListFacts.{all_at_pairs}
 use Rattle.table_rules.proofs.modules.symbols_kept.Goals as goal
 
-pub returns-then-few : goal.returns-then-few
-returns-then-few c = let told = symbols_told c.args.names c.args.symbols.now in search rules
-
-pub returns-else-few : goal.returns-else-few
-returns-else-few c = let told = symbols_told c.args.names c.args.symbols.now in search rules
+pub returns : goal.returns
+returns c = rw (all_at_pairs, length-map c.args.symbols.now symbol_of) (all_from_yields_List _ _ _ _ c.all.ensures.ran (YieldsList-from_enumerate (YieldsList-from_slice c.args.symbols.now cc) cc) (λ x b q k. search (rules, tests)))

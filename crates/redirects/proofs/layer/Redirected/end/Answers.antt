@@ -4,10 +4,10 @@ use Rattle.redirects.specs.Following.{usable, followed}
 use Rattle.redirects.proofs.Ended.{ends}
 use Rattle.redirects.proofs.layer.Redirected.end.Goals as goal
 
-pub returns : goal.returns
-returns g c =
+pub returns-clause-ends : goal.returns-clause-ends
+returns-clause-ends g c =
     let n = length (g.H.Host.program c.args.self.now.host).modules in
     let rs = vec_items c.args.self.now.redirects in
     let m = c.args.start in
     let is : c.follow.result ≡ followed (usable n rs) m = cc in
-    record { value = is; ends = subst (Ends (usable n rs) m) (sym is) (ends (usable n rs) m) }
+    subst (Ends (usable n rs) m) (sym is) (ends (usable n rs) m)
