@@ -67,10 +67,7 @@ mod tests {
         fn steps(&self, heap: Global, module: &str, name: &str) -> Result<Option<usize>, Fail> {
             let module = self.module(module)?;
             let name = self.name(name)?;
-            match route(heap, &self.tables, module, name)? {
-                Some(steps) => Ok(Some(steps.len())),
-                None => Ok(None),
-            }
+            Ok(route(heap, &self.tables, module, name)?.map(|steps| steps.len()))
         }
     }
 

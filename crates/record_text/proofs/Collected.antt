@@ -1,17 +1,16 @@
 -- Lemmas on the names that are collected before the lines are read.
-use Rattle.std.proofs.Common.{◌≡◌, ◌<◌, List, [], ◌∷◌, ◌++◌, length, Ok, Err, codes, Result, sym, refl, ap, ◌∙◌, subst, inl, inr, arith}
+use Rattle.std.proofs.Common.{◌≡◌, ◌<◌, List, [], ◌∷◌, ◌++◌, length, Ok, Err, codes, Result, refl, ap, ◌∙◌, subst, inl, inr, arith}
 use Rattle.std.specs.Str.Lines.{IsFirstLine as FirstLine}
-use Rattle.std.proofs.lemmas.List.{nil_from_length}
 use Rattle.words.specs.Interned.{texts, firsts}
 use Rattle.words.specs.Lines.{Lines}
 use Rattle.words.specs.Texts.{Text}
 use Rattle.words.specs.Words.{Content, First}
 use Rattle.words.specs.declared.interner_struct.Names.{Names}
 use Rattle.words.proofs.Lined.{lines_push}
-use Rattle.record_text.specs.declared.faults.Fault.{Fault}
-use Rattle.record_text.specs.declared.faults.Fault.TheVariants.{Line as At, NoMemory}
+use Rattle.words.specs.declared.faults.Fault.TheVariants.{Line as At, NoMemory}
 use Rattle.record_text.specs.declared.texts.Texts.{Texts}
-use Rattle.record_text.specs.Collecting.{Begins, Other, Gathered, Gathers, NameAdded, LineCollected, Tabled}
+use Rattle.record_text.specs.Faults.{Fault}
+use Rattle.record_text.specs.Collecting.{Begins, Other, Gathered, Gathers, NameAdded, LineCollected}
 
 -- the two first words of a line
 pub begins : (k l c x d w e : Text) → x ≡ k → Content l c → First c x d → First d w e → Begins k l w
@@ -21,19 +20,10 @@ begins k l c x d w e same content first second = (c, content, d, e, subst (λ (v
 pub other_word : (k l c x d : Text) → (x ≡ k → ⊥) → Content l c → First c x d → Other k l
 other_word k l c x d not content first = (c, content, inr (x, d, first, inl not))
 
--- a line that adds nothing
-pub nothing_gathered : (t : Texts) (l : Text) → Other (codes "module") l → Other (codes "package") l → LineCollected t l t (Ok tt)
-nothing_gathered t l a b = (refl, inr (a, refl), inr (b, refl))
-
 pub module_collected : (t : Texts) (names : Names) (l w : Text) (r : Result (Unit {0}) Fault) → Begins (codes "module") l w → Other (codes "package") l → NameAdded t.modules w names r → LineCollected t l (record { names = t.names; modules = names; packages = t.packages }) r
 module_collected t names l w (Ok u) h not added = (refl, inl (w, h, added), inr (not, refl))
 module_collected t names l w (Err (At n e s)) h not added = added
 module_collected t names l w (Err NoMemory) h not added = tt
-
-pub package_collected : (t : Texts) (names : Names) (l w : Text) (r : Result (Unit {0}) Fault) → Begins (codes "package") l w → Other (codes "module") l → NameAdded t.packages w names r → LineCollected t l (record { names = t.names; modules = t.modules; packages = names }) r
-package_collected t names l w (Ok u) h not added = (refl, inr (not, refl), inl (w, h, added))
-package_collected t names l w (Err (At n e s)) h not added = added
-package_collected t names l w (Err NoMemory) h not added = tt
 
 pub not_package : (x : Text) → x ≡ codes "module" → x ≡ codes "package" → ⊥
 not_package x a b = omega (arith, ap length a, ap length b)
@@ -51,9 +41,6 @@ pub record Sofar (w rest : Text) (t : Texts) : Type 0 where
   pub modules : Gathers (codes "module") [] ls (texts t.modules)
   pub packages : Gathers (codes "package") [] ls (texts t.packages)
 
-pub none_yet : (w rest : Text) (t : Texts) → rest ≡ w → texts t.names ≡ firsts → texts t.modules ≡ [] → texts t.packages ≡ [] → Sofar w rest t
-none_yet w rest t same first mods packs = record { ls = []; lines = sym same; names = first; modules = mods; packages = packs }
-
 pub one_more : (w rest l after : Text) (t u : Texts) → Sofar w rest t → 0 < length rest → FirstLine rest l after → LineCollected t l u (Ok tt) → Sofar w after u
 one_more w rest l after t u old some first (names, mods, packs) =
     record {
@@ -63,14 +50,3 @@ one_more w rest l after t u old some first (names, mods, packs) =
       modules = gathers_push (codes "module") old.ls l [] (texts t.modules) (texts u.modules) old.modules mods;
       packages = gathers_push (codes "package") old.ls l [] (texts t.packages) (texts u.packages) old.packages packs;
     }
-
-pub all_seen : (w rest : Text) (t : Texts) → Sofar w rest t → length rest ≡ 0 → (texts t.names ≡ firsts) × Tabled w (texts t.modules) (texts t.packages)
-all_seen w rest t old none = (
-  old.names,
-  record {
-    ls = old.ls;
-    lines = subst (Lines w old.ls) (nil_from_length rest none) old.lines;
-    modules = old.modules;
-    packages = old.packages;
-  },
-)

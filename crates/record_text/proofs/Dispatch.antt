@@ -1,7 +1,7 @@
 -- Lemmas on a line that is read by its keyword and the count of its words.
 use Rattle.std.proofs.Common.{◌≡◌, List, [], ◌∷◌, map, length, get_or, Result, sym, refl, subst, arith, Bor}
 use Rattle.words.specs.Texts.{Text}
-use Rattle.record_text.specs.declared.faults.Unread.{Unread}
+use Rattle.record_text.specs.Faults.{Unread}
 use Rattle.record_text.specs.declared.items.Item.{Item}
 use Rattle.record_text.specs.declared.texts.Texts.{Texts}
 use Rattle.record_text.specs.Forms.{Formed}

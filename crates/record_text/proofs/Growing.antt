@@ -1,5 +1,5 @@
 -- What a line says stays so while names are added.
-use Rattle.std.proofs.Common.{true, false, List, Some, None, Option, sym, ◌∙◌, subst}
+use Rattle.std.proofs.Common.{true, false, List, Some, None, Option, sym, subst}
 use Rattle.ids.specs.Paths.{names_of}
 use Rattle.ids.specs.declared.numbers.NameId.{NameId}
 use Rattle.ids.specs.declared.path_struct.Path.{Path}
@@ -9,7 +9,7 @@ use Rattle.host.specs.declared.told.SymbolNodeDep.{SymbolNodeDep}
 use Rattle.host.specs.declared.told.SymbolNodeDep.TheVariants.{Id, QualifiedId, ImportType}
 use Rattle.words.specs.Spelled.{Extends}
 use Rattle.words.specs.Texts.{Text}
-use Rattle.words.proofs.Numbering.{extends_on, numbered_kept, spells_kept}
+use Rattle.words.proofs.Numbering.{numbered_kept, spells_kept}
 use Rattle.record_text.specs.declared.items.DeclarationHead.{DeclarationHead}
 use Rattle.record_text.specs.declared.items.DeclarationKind.{DeclarationKind}
 use Rattle.record_text.specs.declared.items.DeclarationKind.TheVariants.{Alias, QualifiedAlias, File, Defines}
@@ -21,14 +21,6 @@ use Rattle.record_text.specs.declared.items.SymbolPart.{SymbolPart}
 use Rattle.record_text.specs.declared.items.SymbolPart.TheVariants.{Exports, Member, Declares, Refers}
 use Rattle.record_text.specs.Fields.{OrNone, NameSaid, ModuleSaid, PackageSaid, FileNameSaid, PathSaid}
 use Rattle.record_text.specs.Forms.{Shelf, HeadSaid, DeclarationSaid, ReferenceSaid, SymbolPartSaid, ModulePartSaid, Said, Grew}
-
-pub grew_on : (t u v : Shelf) → Grew t u → Grew u v → Grew t v
-grew_on t u v a b =
-    record {
-      names = extends_on t.names u.names v.names a.names b.names;
-      modules = b.modules ∙ a.modules;
-      packages = b.packages ∙ a.packages;
-    }
 
 pub name_kept : (ns ms : List Text) (w : Text) (n : NameId) → Extends ns ms → NameSaid ns w n → NameSaid ms w n
 name_kept ns ms w n ext h = numbered_kept ns ms w n.0 ext h

@@ -1,5 +1,5 @@
 -- Lemmas on what the lines of a text say.
-use Rattle.std.proofs.Common.{◌≡◌, ℕ, ◌+◌, ◌<◌, ◌≤◌, List, [], ◌∷◌, ◌++◌, map, length, Some, Ok, Err, Option, Result, sym, refl, ap, ◌∙◌, subst, arith, Bor}
+use Rattle.std.proofs.Common.{◌≡◌, ℕ, ◌+◌, ◌<◌, List, [], ◌∷◌, ◌++◌, map, length, Some, Option, sym, refl, ap, ◌∙◌, subst, arith, Bor}
 use Rattle.std.specs.Str.Lines.{IsFirstLine as FirstLine}
 use Rattle.std.proofs.lemmas.List.{append_assoc, append-nil, length_push, nil_from_length}
 use Rattle.words.specs.Interned.{texts, firsts}
@@ -9,26 +9,14 @@ use Rattle.words.specs.Texts.{Text}
 use Rattle.words.specs.Words.{Says}
 use Rattle.words.proofs.Lined.{lines_push}
 use Rattle.words.proofs.Numbering.{extends_on}
-use Rattle.record_text.specs.declared.faults.Fault.{Fault}
-use Rattle.record_text.specs.declared.faults.Fault.TheVariants.{Line as At, NoMemory}
 use Rattle.record_text.specs.declared.items.Item.{Item}
 use Rattle.record_text.specs.declared.listing.Listing.{Listing}
 use Rattle.record_text.specs.declared.listing.Reader.{Reader}
 use Rattle.record_text.specs.Collecting.{Tabled}
 use Rattle.record_text.specs.Forms.{Shelf, shelf, Said, Grew}
 use Rattle.record_text.specs.Placing.{Sketch, sketch, blank, placed}
-use Rattle.record_text.specs.Reading.{after, all_placed, WordsSay, LineSays, LinesSay, Added, WordsRead, LineRead, Listed, Records, Read}
+use Rattle.record_text.specs.Reading.{after, all_placed, WordsSay, LineSays, LinesSay, Added, Listed, Records}
 use Rattle.record_text.proofs.Growing.{said_kept}
-
--- a line of no words adds nothing
-pub nothing_added : (r : Reader) (ws : List (Bor Text)) → length ws ≡ 0 → Added r r (map (λ x. x.now) ws)
-nothing_added r ws none =
-    record {
-      grew = record { names = ([], sym (append-nil _)); modules = refl; packages = refl };
-      items = [];
-      say = ap (map (λ (x : Bor Text). x.now)) (nil_from_length ws none);
-      place = refl;
-    }
 
 -- a line of some words adds one item
 pub item_added : (before next : Reader) (ws : List (Bor Text)) (x : Bor Text) (xs : List (Bor Text)) (i : Item) → ws ≡ x ∷ xs → Said (shelf next.texts) i (x.now ∷ map (λ y. y.now) xs) → Grew (shelf before.texts) (shelf next.texts) → placed (sketch before.draft) i ≡ Some (sketch next.draft) → Added before next (map (λ y. y.now) ws)
@@ -40,11 +28,6 @@ item_added before next ws x xs i e said grew place =
       place = place;
     }
 
-pub line_read : (before next : Reader) (k : ℕ) (l : Text) (ws : List Text) (r : Result (Unit {0}) Fault) → Says l ws → WordsRead before k ws next r → LineRead before k l next r
-line_read before next k l ws (Ok u) says h = (ws, says, h)
-line_read before next k l ws (Err (At n e s)) says h = (ws, says, h)
-line_read before next k l ws (Err NoMemory) says h = tt
-
 -- the loop has read the lines ls, and rest is left
 pub record Sofar (w rest : Text) (number : ℕ) (r : Reader) : Type 0 where
   pub begun : Extends firsts (texts r.texts.names)
@@ -55,7 +38,6 @@ pub record Sofar (w rest : Text) (number : ℕ) (r : Reader) : Type 0 where
   pub say : LinesSay (shelf r.texts) ls items
   pub place : all_placed (Some blank) items ≡ Some (sketch r.draft)
   pub count : number ≡ length ls
-  pub room : number + length rest ≤ length w
 
 pub begins : (w rest : Text) (r : Reader) → rest ≡ w → texts r.texts.names ≡ firsts → Tabled w (texts r.texts.modules) (texts r.texts.packages) → sketch r.draft ≡ blank → Sofar w rest 0 r
 begins w rest r same first known none =
@@ -68,7 +50,6 @@ begins w rest r same first known none =
       say = refl;
       place = ap Some (sym none);
       count = refl;
-      room = omega (arith, ap length same);
     }
 
 words_kept : (t u : Shelf) (ws : List Text) (is : List Item) → Grew t u → WordsSay t ws is → WordsSay u ws is
@@ -92,8 +73,8 @@ placed_push s (i ∷ is) out = placed_push (after s i) is out
 tabled_kept : (w : Text) (t u : Shelf) → Grew t u → Tabled w t.modules t.packages → Tabled w u.modules u.packages
 tabled_kept w t u g h = subst (λ (ms : List Text). Tabled w ms u.packages) (sym g.modules) (subst (Tabled w t.modules) (sym g.packages) h)
 
-pub one_more_line : (w rest l later : Text) (k : ℕ) (r next : Reader) (ws : List Text) → Sofar w rest k r → 0 < length rest → length later < length rest → FirstLine rest l later → Says l ws → Added r next ws → Sofar w later (k + 1) next
-one_more_line w rest l later k r next ws old some less first says added =
+pub one_more_line : (w rest l later : Text) (k : ℕ) (r next : Reader) (ws : List Text) → Sofar w rest k r → 0 < length rest → FirstLine rest l later → Says l ws → Added r next ws → Sofar w later (k + 1) next
+one_more_line w rest l later k r next ws old some first says added =
     record {
       begun = extends_on firsts _ _ old.begun added.grew.names;
       known = tabled_kept w (shelf r.texts) (shelf next.texts) added.grew old.known;
@@ -103,7 +84,6 @@ one_more_line w rest l later k r next ws old some less first says added =
       say = say_push (shelf next.texts) old.ls l old.items added.items (lines_kept (shelf r.texts) (shelf next.texts) old.ls old.items added.grew old.say) (ws, says, added.say);
       place = placed_push (Some blank) old.items added.items ∙ ap (λ s. all_placed s added.items) old.place ∙ added.place;
       count = omega (arith, old.count, length_push old.ls l);
-      room = omega (arith, old.room);
     }
 
 pub all_read : (w rest : Text) (k : ℕ) (r : Reader) (l : Listing) → Sofar w rest k r → length rest ≡ 0 → Listed r l → Records w l
@@ -119,26 +99,3 @@ all_read w rest k r l old none listed =
       place = old.place;
       program = listed.program;
     }
-
-pub stops_at : (w rest l later : Text) (k : ℕ) (r next : Reader) (f : Fault) → Sofar w rest k r → FirstLine rest l later → LineRead r (k + 1) l next (Err f) → Read w (Err f)
-stops_at w rest l later k r next (At n e s) old first (ws, says, failed) =
-    record {
-      lines = old.ls;
-      rest = rest;
-      front = old.lines;
-      number = failed.number ∙ ap (λ x. x + 1) old.count;
-      tables = shelf r.texts;
-      known = old.known;
-      items = old.items;
-      say = old.say;
-      end = sketch r.draft;
-      place = old.place;
-      line = l;
-      later = later;
-      next = first;
-      words = ws;
-      says = says;
-      word = failed.word;
-      why = failed.why;
-    }
-stops_at w rest l later k r next NoMemory old first h = tt

@@ -5,9 +5,9 @@ use Rattle.words.specs.Lines.{Lines}
 use Rattle.words.specs.Texts.{Text}
 use Rattle.words.specs.Words.{Blank, Content, First}
 use Rattle.words.specs.declared.interner_struct.Names.{Names}
-use Rattle.record_text.specs.declared.faults.Fault.{Fault}
-use Rattle.record_text.specs.declared.faults.Fault.TheVariants.{Line as At, NoMemory}
+use Rattle.words.specs.declared.faults.Fault.TheVariants.{Line as At, NoMemory}
 use Rattle.record_text.specs.declared.texts.Texts.{Texts}
+use Rattle.record_text.specs.Faults.{Fault}
 
 -- the line l begins with the words k and w
 abbrev pub Begins : Text → Text → Text → Type 0

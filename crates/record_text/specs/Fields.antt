@@ -17,11 +17,11 @@ use Rattle.host.specs.declared.told.SourceRange.{SourceRange}
 use Rattle.words.specs.Interned.{Numbered}
 use Rattle.words.specs.Spelled.{Spells, Extends}
 use Rattle.words.specs.Texts.{Text}
+use Rattle.words.specs.declared.faults.Unread.TheVariants.{Of, NoMemory}
 use Rattle.words.specs.declared.spelling.PathFault.{PathFault}
 use Rattle.words.specs.declared.spelling.PathFault.TheVariants.{EmptyName, TooManyNames, TooManyDistinctNames, NoMemory as NoRoom}
 use Rattle.record_text.specs.declared.faults.Expected.TheVariants.{Path as Spelling}
-use Rattle.record_text.specs.declared.faults.Unread.{Unread}
-use Rattle.record_text.specs.declared.faults.Unread.TheVariants.{Of, NoMemory}
+use Rattle.record_text.specs.Faults.{Unread}
 
 -- the word for none
 abbrev pub dash : Text
@@ -83,17 +83,31 @@ No {X} P = (x : X) → P x → ⊥
 
 -- the word at the place k is at fault, since N holds, or memory ran out
 abbrev pub Refused : Type 0 → ℕ → Unread → Type 0
-Refused N k (Of e i) = (i ≡ k) × N
+Refused N k (Of p) = (p.1 ≡ k) × N
 Refused N k NoMemory = Unit {0}
 
 abbrev pub Read : {X : Type 0} → (X → Type 0) → Type 0 → ℕ → Result X Unread → Type 0
 Read P N k (Ok x) = P x
 Read P N k (Err u) = Refused N k u
 
+-- w is a dash and K holds, or w is another word, and V or E of what came of it
+abbrev pub DashCases : {X : Type 0} → Type 0 → (X → Type 0) → (Unread → Type 0) → Text → Result (Option X) Unread → Type 0
+DashCases K V E w (Ok None) = (w ≡ dash) × K
+DashCases K V E w (Ok (Some x)) = (w ≢ dash) × V x
+DashCases K V E w (Err u) = (w ≢ dash) × E u
+
+-- w is a dash and K holds, or w is another word and R of what came of it
+abbrev pub DashOr : {X : Type 0} → Type 0 → (Result X Unread → Type 0) → Text → Result (Option X) Unread → Type 0
+DashOr K R = DashCases K (λ x. R (Ok x)) (λ u. R (Err u))
+
+-- what comes of a word that may be a dash, and else says x as P has it
+abbrev pub OrNoneRead : {X : Type 0} → (Text → X → Type 0) → Text → ℕ → Result (Option X) Unread → Type 0
+OrNoneRead P w = Read (OrNone P w) (No (OrNone P w))
+
 -- a name is always read, where memory lasts
 abbrev pub NameOnly : {X : Type 0} → (X → Type 0) → Result X Unread → Type 0
 NameOnly P (Ok x) = P x
-NameOnly P (Err (Of e i)) = ⊥
+NameOnly P (Err (Of p)) = ⊥
 NameOnly P (Err NoMemory) = Unit {0}
 
 abbrev pub NumberRead : Text → ℕ → Result ℕ Unread → Type 0
@@ -101,7 +115,7 @@ NumberRead w = Read (Counts w) (No (Counts w))
 
 -- the words at the places 1 and 2 are no range
 abbrev pub RangeRefused : Text → Text → Unread → Type 0
-RangeRefused s e (Of x i) = (i < 3) × No (RangeSaid s e)
+RangeRefused s e (Of p) = (p.1 < 3) × No (RangeSaid s e)
 RangeRefused s e NoMemory = Unit {0}
 
 abbrev pub RangeRead : Text → Text → Result SourceRange Unread → Type 0
@@ -112,7 +126,7 @@ abbrev pub SymbolRead : Text → ℕ → Result SymbolId Unread → Type 0
 SymbolRead w = Read (SymbolSaid w) (No (SymbolSaid w))
 
 abbrev pub SymbolOrNoneRead : Text → ℕ → Result (Option SymbolId) Unread → Type 0
-SymbolOrNoneRead w = Read (OrNone SymbolSaid w) (No (OrNone SymbolSaid w))
+SymbolOrNoneRead = OrNoneRead SymbolSaid
 
 abbrev pub NameRead : List Text → Text → List Text → Result NameId Unread → Type 0
 NameRead before w after = NameOnly (λ n. NameSaid after w n × Extends before after)
@@ -129,8 +143,8 @@ Pathless w = (names : List Text) (p : Path) → PathSaid names w p → ⊥
 
 -- how a fault of a path is told
 abbrev pub PathUnread : PathFault → ℕ → Unread → Type 0
-PathUnread EmptyName k u = u ≡ Of Spelling k
-PathUnread (TooManyNames n) k u = u ≡ Of Spelling k
+PathUnread EmptyName k u = u ≡ Of (Spelling, k)
+PathUnread (TooManyNames n) k u = u ≡ Of (Spelling, k)
 PathUnread TooManyDistinctNames k u = u ≡ NoMemory
 PathUnread NoRoom k u = u ≡ NoMemory
 
@@ -140,17 +154,21 @@ PathRead before w after = Read (λ p. PathSaid after w p × Extends before after
 abbrev pub PathOrNoneRead : List Text → Text → List Text → ℕ → Result (Option Path) Unread → Type 0
 PathOrNoneRead before w after = Read (λ p. OrNone (PathSaid after) w p × Extends before after) ((w ≢ dash) × Pathless w)
 
+-- the number of a text of a table
+abbrev pub ListedRead : List Text → Text → ℕ → Result ℕ Unread → Type 0
+ListedRead ts w = Read (Numbered ts w) (No (Numbered ts w))
+
 abbrev pub ModuleRead : List Text → Text → ℕ → Result ModuleId Unread → Type 0
 ModuleRead mods w = Read (ModuleSaid mods w) (No (ModuleSaid mods w))
 
 abbrev pub ModuleOrNoneRead : List Text → Text → ℕ → Result (Option ModuleId) Unread → Type 0
-ModuleOrNoneRead mods w = Read (OrNone (ModuleSaid mods) w) (No (OrNone (ModuleSaid mods) w))
+ModuleOrNoneRead mods = OrNoneRead (ModuleSaid mods)
 
 abbrev pub PackageRead : List Text → Text → ℕ → Result PackageId Unread → Type 0
 PackageRead packs w = Read (PackageSaid packs w) (No (PackageSaid packs w))
 
 abbrev pub PackageOrNoneRead : List Text → Text → ℕ → Result (Option PackageId) Unread → Type 0
-PackageOrNoneRead packs w = Read (OrNone (PackageSaid packs) w) (No (OrNone (PackageSaid packs) w))
+PackageOrNoneRead packs = OrNoneRead (PackageSaid packs)
 
 abbrev pub ModuleKindRead : Text → ℕ → Result ModuleKind Unread → Type 0
 ModuleKindRead w = Read (λ k. w ≡ kind_word k) (No (λ k. w ≡ kind_word k))

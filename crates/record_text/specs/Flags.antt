@@ -3,9 +3,9 @@ use Rattle.std.specs.Prelude.{◌≡◌, ℕ, true, false, ◌⊎◌, List, [], 
 use Rattle.host.specs.declared.told.SymbolDeclFlags.{SymbolDeclFlags}
 use Rattle.words.specs.Spelled.{comma, Pieces}
 use Rattle.words.specs.Texts.{Text}
-use Rattle.record_text.specs.declared.faults.Unread.{Unread}
 use Rattle.record_text.specs.declared.flagging.Flag.{Flag}
 use Rattle.record_text.specs.declared.flagging.Flag.TheVariants.{Overloads, Body, Export, Private, Member, Function, Class, Scope}
+use Rattle.record_text.specs.Faults.{Unread}
 use Rattle.record_text.specs.Fields.{dash, No, Read}
 
 abbrev pub flag_word : Flag → Text

@@ -5,8 +5,7 @@ use Rattle.host.specs.declared.told.SymbolNodeDep.TheVariants.{Id, QualifiedId, 
 use Rattle.words.specs.Interned.{texts}
 use Rattle.words.specs.Spelled.{Extends}
 use Rattle.words.specs.Texts.{Text}
-use Rattle.record_text.specs.declared.faults.Unread.{Unread}
-use Rattle.record_text.specs.declared.faults.Unread.TheVariants.{Of, NoMemory}
+use Rattle.words.specs.declared.faults.Unread.TheVariants.{Of, NoMemory}
 use Rattle.record_text.specs.declared.items.DeclarationHead.{DeclarationHead}
 use Rattle.record_text.specs.declared.items.DeclarationKind.{DeclarationKind}
 use Rattle.record_text.specs.declared.items.DeclarationKind.TheVariants.{Alias, QualifiedAlias, File, Defines}
@@ -17,6 +16,7 @@ use Rattle.record_text.specs.declared.items.ModulePart.TheVariants.{Depends, Exp
 use Rattle.record_text.specs.declared.items.SymbolPart.{SymbolPart}
 use Rattle.record_text.specs.declared.items.SymbolPart.TheVariants.{Exports, Member, Declares, Refers}
 use Rattle.record_text.specs.declared.texts.Texts.{Texts}
+use Rattle.record_text.specs.Faults.{Unread}
 use Rattle.record_text.specs.Fields.{OrNone, RangeRefused, RangeSaid, SymbolSaid, NameSaid, ModuleSaid, PackageSaid, FileNameSaid, PathSaid, kind_word, namespace_word}
 use Rattle.record_text.specs.Flags.{FlagsSaid}
 use Rattle.record_text.specs.Nodes.{node_word}
@@ -83,7 +83,7 @@ Unsaid t ws = (names : List Text) (i : Item) → Said (record { names = names; m
 
 -- the words ws say no item, and the word at a place among them is at fault; or memory ran out
 abbrev pub Faulted : Shelf → List Text → Unread → Type 0
-Faulted t ws (Of e i) = (i < length ws) × Unsaid t ws
+Faulted t ws (Of p) = (p.1 < length ws) × Unsaid t ws
 Faulted t ws NoMemory = Unit {0}
 
 -- what comes of the words that each declaration begins with

@@ -1,4 +1,5 @@
 pub mod Collecting
+pub mod Faults
 pub mod Fields
 pub mod Flags
 pub mod Forms

@@ -1,10 +1,9 @@
 -- The word of each kind of syntax. Assumes nothing.
-use Rattle.std.specs.Prelude.{◌≡◌, ℕ, List, [], ◌∷◌, Some, None, codes, Option, Result, ◌≢◌}
-use Rattle.std.specs.List.{AllByRecursion}
+use Rattle.std.specs.Prelude.{◌≡◌, ℕ, codes, Result}
 use Rattle.host.specs.declared.node_kinds.NodeKind.{NodeKind}
 use Rattle.host.specs.declared.node_kinds.NodeKind.TheVariants.{Module, ExportDefaultExpr, ClassDecl, FnDecl, TsEnum, TsInterface, TsNamespace, TsTypeAlias, Var, UsingVar, AutoAccessor, ClassMethod, ClassProp, ClassParamProp, Constructor, ExpandoProperty, TsIndexSignature, TsCallSignatureDecl, TsConstructSignatureDecl, TsPropertySignature, TsGetterSignature, TsSetterSignature, TsMethodSignature, ExportClass, ExportFn, ExportVar, ExportTsEnum, ExportTsInterface, ExportTsModule, ExportTsTypeAlias, DefaultFn, DefaultTsInterface, DefaultClass}
 use Rattle.words.specs.Texts.{Text}
-use Rattle.record_text.specs.declared.faults.Unread.{Unread}
+use Rattle.record_text.specs.Faults.{Unread}
 use Rattle.record_text.specs.Fields.{No, Read}
 
 abbrev pub node_word : NodeKind → Text
@@ -41,20 +40,6 @@ node_word ExportTsTypeAlias = codes "ExportTsTypeAlias"
 node_word DefaultFn = codes "DefaultFn"
 node_word DefaultTsInterface = codes "DefaultTsInterface"
 node_word DefaultClass = codes "DefaultClass"
-
-abbrev pub plain_nodes : List NodeKind
-plain_nodes = Module ∷ ExportDefaultExpr ∷ ClassDecl ∷ FnDecl ∷ TsEnum ∷ TsInterface ∷ TsNamespace ∷ TsTypeAlias ∷ Var ∷ UsingVar ∷ AutoAccessor ∷ ClassMethod ∷ []
-
-abbrev pub member_nodes : List NodeKind
-member_nodes = ClassProp ∷ ClassParamProp ∷ Constructor ∷ ExpandoProperty ∷ TsIndexSignature ∷ TsCallSignatureDecl ∷ TsConstructSignatureDecl ∷ TsPropertySignature ∷ TsGetterSignature ∷ TsSetterSignature ∷ TsMethodSignature ∷ []
-
-abbrev pub exported_nodes : List NodeKind
-exported_nodes = ExportClass ∷ ExportFn ∷ ExportVar ∷ ExportTsEnum ∷ ExportTsInterface ∷ ExportTsModule ∷ ExportTsTypeAlias ∷ DefaultFn ∷ DefaultTsInterface ∷ DefaultClass ∷ []
-
--- w is the word of one of these kinds, or of none
-abbrev pub NodeFound : List NodeKind → Text → Option NodeKind → Type 0
-NodeFound ks w None = AllByRecursion (λ k. w ≢ node_word k) ks
-NodeFound ks w (Some k) = w ≡ node_word k
 
 abbrev pub NodeKindRead : Text → ℕ → Result NodeKind Unread → Type 0
 NodeKindRead w = Read (λ k. w ≡ node_word k) (No (λ k. w ≡ node_word k))

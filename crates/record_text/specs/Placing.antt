@@ -1,5 +1,5 @@
 -- Where an item goes in a program: to the last of what it is a part of. Assumes nothing.
-use Rattle.std.specs.Prelude.{◌≡◌, Bool, true, false, cond, List, [], ◌∷◌, ◌++◌, length, Some, None, Ok, Err, Option, Result, ◌==◌}
+use Rattle.std.specs.Prelude.{◌≡◌, ◌≢◌, ℕ, Bool, true, false, cond, List, [], ◌∷◌, ◌++◌, ◌⊎◌, length, Some, None, Ok, Err, Option, Result, ◌==◌}
 use Rattle.std.specs.Option.{option_map}
 use Rattle.ids.specs.declared.numbers.ModuleId.{ModuleId}
 use Rattle.ids.specs.declared.numbers.SymbolId.{SymbolId}
@@ -9,9 +9,8 @@ use Rattle.host.specs.declared.told.SymbolNodeDep.{SymbolNodeDep}
 use Rattle.table_rules.specs.Meaning.{program_of}
 use Rattle.record_text.specs.declared.draft.Draft.{Draft}
 use Rattle.record_text.specs.declared.draft.Open.{Open}
-use Rattle.record_text.specs.declared.draft.Open.TheVariants.{Nothing, Package as InPackage, Module as InModule}
-use Rattle.record_text.specs.declared.faults.Unplaced.{Unplaced}
-use Rattle.record_text.specs.declared.faults.Unplaced.TheVariants.{Needs, NoMemory}
+use Rattle.record_text.specs.declared.draft.Open.TheVariants.{Package as InPackage, Module as InModule}
+use Rattle.words.specs.declared.faults.Unread.TheVariants.{Of, NoMemory}
 use Rattle.record_text.specs.declared.items.Declaration.{Declaration}
 use Rattle.record_text.specs.declared.items.DeclarationKind.{DeclarationKind}
 use Rattle.record_text.specs.declared.items.DeclarationKind.TheVariants.{Alias, QualifiedAlias, File, Defines}
@@ -22,6 +21,8 @@ use Rattle.record_text.specs.declared.items.ModulePart.{ModulePart}
 use Rattle.record_text.specs.declared.items.ModulePart.TheVariants.{Depends, ExportsAll, Symbol as OneSymbol, Inner}
 use Rattle.record_text.specs.declared.items.SymbolPart.{SymbolPart}
 use Rattle.record_text.specs.declared.items.SymbolPart.TheVariants.{Exports, Member, Declares, Refers}
+use Rattle.record_text.specs.Faults.{Unplaced}
+use Rattle.record_text.specs.declared.faults.Expected.{Expected}
 use Rattle.record_text.specs.Flags.{unflagged}
 
 -- the list with its last element changed, where there is one and it takes the change
@@ -105,30 +106,30 @@ in_package m p = entries_with m p.entries
 -- a program that is being read, and what the last line of a package or a module was
 pub record Sketch : Type 0 where
   pub program : Program
-  pub open_at : Open
+  pub open_at : Option Open
 
 abbrev pub sketch : Draft → Sketch
 sketch d = record { program = program_of d.table; open_at = d.open }
 
 -- nothing has been read
 abbrev pub blank : Sketch
-blank = record { program = record { names = 0; packages = []; modules = [] }; open_at = Nothing }
+blank = record { program = record { names = 0; packages = []; modules = [] }; open_at = None }
 
 abbrev pub with_packages : Program → List Package → Sketch
-with_packages g ps = record { program = record { names = g.names; packages = ps; modules = g.modules }; open_at = InPackage }
+with_packages g ps = record { program = record { names = g.names; packages = ps; modules = g.modules }; open_at = Some InPackage }
 
 abbrev pub with_modules : Program → List Module → Sketch
-with_modules g ms = record { program = record { names = g.names; packages = g.packages; modules = ms }; open_at = InModule }
+with_modules g ms = record { program = record { names = g.names; packages = g.packages; modules = ms }; open_at = Some InModule }
 
-abbrev pub where_package : Open → Option Sketch → Option Sketch
-where_package Nothing s = None
-where_package InPackage s = s
-where_package InModule s = None
+abbrev pub where_package : Option Open → Option Sketch → Option Sketch
+where_package None s = None
+where_package (Some InPackage) s = s
+where_package (Some InModule) s = None
 
-abbrev pub where_module : Open → Option Sketch → Option Sketch
-where_module Nothing s = None
-where_module InPackage s = None
-where_module InModule s = s
+abbrev pub where_module : Option Open → Option Sketch → Option Sketch
+where_module None s = None
+where_module (Some InPackage) s = None
+where_module (Some InModule) s = s
 
 -- the program with one more item. Packages and modules come in the order of their numbers; an entry follows its package,
 -- and a part of a module its module
@@ -141,8 +142,20 @@ placed s (Part p) = where_module s.open_at (option_map (with_modules s.program) 
 -- what comes of a change f
 abbrev pub Adds : {X : Type 0} → (X → Option X) → X → X → Result (Unit {0}) Unplaced → Type 0
 Adds f before after (Ok _) = f before ≡ Some after
-Adds f before after (Err (Needs e)) = f before ≡ None
+Adds f before after (Err (Of e)) = f before ≡ None
 Adds f before after (Err NoMemory) = Unit {0}
+
+-- what comes of a change of the last of some elements, where C says what comes of the change of one: there is none, or C
+-- says it of the last, and the others are as they were
+pub record LastChanged {X : Type 0} (C : X → Result (Unit {0}) Unplaced → X → Type 0) (before after : List X) (r : Result (Unit {0}) Unplaced) : Type 0 where
+  pub outcome : ((before ≡ []) × (after ≡ []) × ((e : Expected) × (r ≡ Err (Of e))))
+      ⊎ ((front : List X) × (x : X) × (y : X) × (before ≡ front ++ x ∷ []) × (after ≡ front ++ y ∷ []) × C x r y)
+
+-- what comes of adding x where n is the number of the next element
+abbrev pub NextAdded : {X : Type 0} → ℕ → X → List X → List X → Result (Unit {0}) Unplaced → Type 0
+NextAdded n x before after (Ok _) = (n ≡ length before) × (after ≡ before ++ x ∷ [])
+NextAdded n x before after (Err (Of e)) = n ≢ length before
+NextAdded n x before after (Err NoMemory) = Unit {0}
 
 abbrev pub Places : Item → Draft → Draft → Result (Unit {0}) Unplaced → Type 0
 Places i before after = Adds (λ s. placed s i) (sketch before) (sketch after)

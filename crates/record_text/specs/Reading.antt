@@ -9,23 +9,15 @@ use Rattle.words.specs.Lines.{Lines}
 use Rattle.words.specs.Spelled.{Extends}
 use Rattle.words.specs.Texts.{Text}
 use Rattle.words.specs.Words.{Says}
-use Rattle.record_text.specs.declared.faults.Fault.{Fault}
-use Rattle.record_text.specs.declared.faults.Fault.TheVariants.{Line as At, NoMemory}
-use Rattle.record_text.specs.declared.faults.Unplaced.{Unplaced}
-use Rattle.record_text.specs.declared.faults.Unplaced.TheVariants.{Needs, NoMemory as NoSpace}
-use Rattle.record_text.specs.declared.faults.Unread.{Unread}
-use Rattle.record_text.specs.declared.faults.Unread.TheVariants.{Of, NoMemory as NoRoom}
+use Rattle.words.specs.declared.faults.Fault.TheVariants.{Line as At, NoMemory}
+use Rattle.words.specs.declared.faults.Unread.TheVariants.{Of, NoMemory as NoRoom}
 use Rattle.record_text.specs.declared.items.Item.{Item}
 use Rattle.record_text.specs.declared.listing.Listing.{Listing}
 use Rattle.record_text.specs.declared.listing.Reader.{Reader}
 use Rattle.record_text.specs.Collecting.{Tabled}
+use Rattle.record_text.specs.Faults.{Fault, Unread}
 use Rattle.record_text.specs.Forms.{Shelf, shelf, Said, Unsaid, Grew}
 use Rattle.record_text.specs.Placing.{Sketch, sketch, blank, placed}
-
--- the fault at the word w of line k
-abbrev pub FaultAt : ℕ → Text → Fault → Type 0
-FaultAt k w (At n e s) = (n ≡ k) × (string_bytes s ≡ w)
-FaultAt k w NoMemory = Unit {0}
 
 -- the fault at one of the words ws of line k
 abbrev pub FaultAmong : ℕ → List Text → Fault → Type 0
@@ -34,18 +26,13 @@ FaultAmong k ws NoMemory = Unit {0}
 
 -- a place among n words
 abbrev pub Below : ℕ → Unread → Type 0
-Below n (Of e i) = i < n
+Below n (Of p) = p.1 < n
 Below n NoRoom = Unit {0}
 
 -- how the refusal of the words ws of line k is told
 abbrev pub UnreadAt : Unread → ℕ → List Text → Fault → Type 0
-UnreadAt (Of e i) k ws f = FaultAmong k ws f
+UnreadAt (Of p) k ws f = FaultAmong k ws f
 UnreadAt NoRoom k ws f = f ≡ NoMemory
-
--- how an item of line k, with the keyword w, that has no place is told
-abbrev pub UnplacedAt : Unplaced → ℕ → Text → Fault → Type 0
-UnplacedAt (Needs e) k w f = FaultAt k w f
-UnplacedAt NoSpace k w f = f ≡ NoMemory
 
 -- the items, one after another, each in its place
 abbrev pub after : Option Sketch → Item → Option Sketch

@@ -10,10 +10,8 @@ use words::{Names, content, first_word};
 fn add(names: &mut Names, name: &str) -> Result<(), Fault>
     ensures { spec.NameAdded names.old name.now names.new result }
 {
-    match names.intern(name) {
-        Ok(_) => Ok(()),
-        Err(_) => Err(Fault::NoMemory),
-    }
+    names.intern(name).map_err(|_| Fault::NoMemory)?;
+    Ok(())
 }
 
 // Adds the name of the module or the package that a line has.
@@ -33,17 +31,16 @@ fn collect_line(texts: &mut Texts, line: &str) -> Result<(), Fault>
     }
 }
 
+// Nothing has been read. The two first names have room: only memory can be short.
 fn begun(heap: Global) -> Result<Texts, Fault>
     ensures { spec.TextsBegun result }
 {
-    match Names::of_declarations(heap, u32::MAX) {
-        Ok(names) => Ok(Texts {
-            names,
-            modules: Names::new(heap, u32::MAX),
-            packages: Names::new(heap, u32::MAX),
-        }),
-        Err(_) => Err(Fault::NoMemory),
-    }
+    let names = Names::of_declarations(heap, u32::MAX).map_err(|_| Fault::NoMemory)?;
+    Ok(Texts {
+        names,
+        modules: Names::new(heap, u32::MAX),
+        packages: Names::new(heap, u32::MAX),
+    })
 }
 
 pub(crate) fn collect(heap: Global, text: &str) -> Result<Texts, Fault>

@@ -4,7 +4,6 @@ use table_rules::ProgramTable;
 // What the last line of a package or a module was.
 #[derive(Clone, Copy)]
 pub(crate) enum Open {
-    Nothing,
     Package,
     Module,
 }
@@ -12,5 +11,6 @@ pub(crate) enum Open {
 #[derive(Drop)]
 pub(crate) struct Draft {
     pub(crate) table: ProgramTable,
-    pub(crate) open: Open,
+    // none before the first such line
+    pub(crate) open: Option<Open>,
 }

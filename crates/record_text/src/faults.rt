@@ -1,12 +1,7 @@
 // What cannot be read, and where.
-ghost use Rattle.std.specs.Prelude.{◌≡◌};
-ghost use Rattle.record_text.specs.declared.faults.Fault.TheVariants.{NoMemory as NoMemoryAtAll};
-ghost use Rattle.record_text.specs.declared.faults.Unread.TheVariants.{NoMemory};
-ghost use Rattle.record_text.specs.declared.faults.Unplaced.TheVariants.{NoMemory as NoRoom};
-
 use ids::PATH_LIMIT;
-use std::alloc::{AllocError, AllocFailed};
 use std::fmt;
+use words::Describe;
 
 // What a line should have had.
 #[derive(Clone, Copy, PartialEq, Eq, Debug)]
@@ -39,55 +34,15 @@ pub enum Expected {
     DefinitionAbove,
 }
 
-// Why a text is not read.
-#[derive(Drop, Debug)]
-pub enum Fault {
-    // the first line that cannot be read, what it should have had, and the word that it has
-    Line {
-        number: usize,
-        expected: Expected,
-        word: String,
-    },
-    NoMemory,
-}
+// Why a text is not read: what the first line that cannot be read should have had, and the word that it has, or that
+// memory ran out.
+pub type Fault = words::Fault<Expected>;
 
 // Why the words of a line say nothing, with the place of the word that it fails at.
-#[derive(Clone, Copy)]
-pub(crate) enum Unread {
-    Of(Expected, usize),
-    NoMemory,
-}
+pub(crate) type Unread = words::Unread<(Expected, usize)>;
 
 // Why what a line says has no place.
-#[derive(Clone, Copy)]
-pub(crate) enum Unplaced {
-    Needs(Expected),
-    NoMemory,
-}
-
-impl From<AllocError> for Unread {
-    ghost from_gives = { λ _ u. u ≡ NoMemory };
-
-    fn from(_error: AllocError) -> Unread {
-        Unread::NoMemory
-    }
-}
-
-impl<T: Drop> From<AllocFailed<T>> for Unplaced {
-    ghost from_gives = { λ _ u. u ≡ NoRoom };
-
-    fn from(_refused: AllocFailed<T>) -> Unplaced {
-        Unplaced::NoMemory
-    }
-}
-
-impl From<AllocError> for Fault {
-    ghost from_gives = { λ _ f. f ≡ NoMemoryAtAll };
-
-    fn from(_error: AllocError) -> Fault {
-        Fault::NoMemory
-    }
-}
+pub(crate) type Unplaced = words::Unread<Expected>;
 
 impl fmt::Display for Expected {
     fn fmt<W: fmt::Write>(&self, f: &mut fmt::Formatter<W>) -> fmt::Result {
@@ -119,16 +74,9 @@ impl fmt::Display for Expected {
     }
 }
 
-// One line of help: where, what was expected, and what was found.
-impl fmt::Display for Fault {
-    fn fmt<W: fmt::Write>(&self, f: &mut fmt::Formatter<W>) -> fmt::Result {
-        match self {
-            Fault::Line {
-                number,
-                expected,
-                word,
-            } => { write!(f, "line {number}: expected {expected}, found \"{word}\"") }
-            Fault::NoMemory => f.write_str("out of memory"),
-        }
+// What was expected in place of a word, and the word.
+impl Describe for Expected {
+    fn describe<W: fmt::Write>(&self, word: &str, f: &mut fmt::Formatter<W>) -> fmt::Result {
+        write!(f, "{self}, found \"{word}\"")
     }
 }

@@ -1,4 +1,6 @@
-// Words become the fields of records. Each word comes with its place on its line, where the keyword has place 0.
+// Words become the fields of records. A word comes with its place on its line, where the keyword has place 0. The two go
+// side by side: the form of a line says the place as a numeral, and a fault takes the place alone.
+ghost use Rattle.std.specs.Prelude.{◌≡◌};
 ghost use Rattle.words.specs.Interned.{texts};
 ghost use Rattle.record_text.specs.Fields as field;
 
@@ -8,14 +10,26 @@ use ids::{ModuleId, NameId, PackageId, Path, SymbolId};
 use std::alloc::Global;
 use words::{Names, PathFault, read_path};
 
+// Nothing where the word is a dash, and else what is read of it.
+fn or_none<T, F: FnMut(&str) -> Result<T, Unread>>(
+    word: &str,
+    read: &mut F,
+) -> Result<Option<T>, Unread>
+    requires { F.IsAlwaysCallable read.old }
+    ensures { field.DashOr (read.new ≡ read.old) (λ r. (w : _) × (w.now ≡ word.now) × F.step read.old w r read.new) word.now result }
+{
+    match word {
+        "-" => Ok(None),
+        _ => read(word).map(Some),
+    }
+}
+
 // A number below 2^32.
 fn number(word: &str, place: usize, expected: Expected) -> Result<u32, Unread>
     ensures { field.NumberRead word.now place result }
 {
-    match word.parse::<u32>() {
-        Ok(number) => Ok(number),
-        Err(_) => Err(Unread::Of(expected, place)),
-    }
+    word.parse::<u32>()
+        .map_err(|_| Unread::Of((expected, place)))
 }
 
 // The start and the end of a range are the words at the places 1 and 2.
@@ -27,44 +41,38 @@ pub(crate) fn range(start: &str, end: &str) -> Result<SourceRange, Unread>
     Ok(SourceRange { start, end })
 }
 
+fn symbol_number(word: &str, place: usize, expected: Expected) -> Result<SymbolId, Unread>
+    ensures { field.SymbolRead word.now place result }
+{
+    number(word, place, expected).map(SymbolId)
+}
+
 pub(crate) fn symbol(word: &str, place: usize) -> Result<SymbolId, Unread>
     ensures { field.SymbolRead word.now place result }
 {
-    Ok(SymbolId(number(word, place, Expected::SymbolNumber)?))
+    symbol_number(word, place, Expected::SymbolNumber)
 }
 
 pub(crate) fn symbol_or_none(word: &str, place: usize) -> Result<Option<SymbolId>, Unread>
     ensures { field.SymbolOrNoneRead word.now place result }
 {
-    match word {
-        "-" => Ok(None),
-        _ => {
-            let number = number(word, place, Expected::SymbolNumberOrNone)?;
-            Ok(Some(SymbolId(number)))
-        }
-    }
+    or_none(
+        word,
+        &mut |word| symbol_number(word, place, Expected::SymbolNumberOrNone),
+    )
 }
 
 // The number of a name, which is put last where it is new. The table has room for 2^32 - 1 names: memory ends first.
 pub(crate) fn name(names: &mut Names, word: &str) -> Result<NameId, Unread>
     ensures { field.NameRead (texts names.old) word.now (texts names.new) result }
 {
-    match names.intern(word) {
-        Ok(number) => Ok(NameId(number)),
-        Err(_) => Err(Unread::NoMemory),
-    }
+    names.intern(word).map(NameId).map_err(|_| Unread::NoMemory)
 }
 
 pub(crate) fn name_or_none(names: &mut Names, word: &str) -> Result<Option<NameId>, Unread>
     ensures { field.NameOrNoneRead (texts names.old) word.now (texts names.new) result }
 {
-    match word {
-        "-" => Ok(None),
-        _ => {
-            let name = name(names, word)?;
-            Ok(Some(name))
-        }
-    }
+    or_none(word, &mut |word| name(names, word))
 }
 
 // What is asked of a file.
@@ -73,22 +81,17 @@ pub(crate) fn file_name(names: &mut Names, word: &str) -> Result<FileDepName, Un
 {
     match word {
         "*" => Ok(FileDepName::Star),
-        _ => {
-            let name = name(names, word)?;
-            Ok(FileDepName::Name(name))
-        }
+        _ => name(names, word).map(FileDepName::Name),
     }
 }
 
-// What a fault of a path says of its word.
+// What a fault of a path says of its word. No `From`: both sides are types of `words`, and the place comes beside them.
 fn path_unread(fault: PathFault, place: usize) -> Unread
     ensures { field.PathUnread fault place result }
 {
     match fault {
-        PathFault::EmptyName => Unread::Of(Expected::Path, place),
-        PathFault::TooManyNames(_) => Unread::Of(Expected::Path, place),
-        PathFault::TooManyDistinctNames => Unread::NoMemory,
-        PathFault::NoMemory => Unread::NoMemory,
+        PathFault::EmptyName | PathFault::TooManyNames(_) => Unread::Of((Expected::Path, place)),
+        PathFault::TooManyDistinctNames | PathFault::NoMemory => Unread::NoMemory,
     }
 }
 
@@ -100,10 +103,7 @@ pub(crate) fn path(
 ) -> Result<Path, Unread>
     ensures { field.PathRead (texts names.old) word.now (texts names.new) place result }
 {
-    match read_path(heap, names, word) {
-        Ok(path) => Ok(path),
-        Err(fault) => Err(path_unread(fault, place)),
-    }
+    read_path(heap, names, word).map_err(|fault| path_unread(fault, place))
 }
 
 pub(crate) fn path_or_none(
@@ -114,16 +114,16 @@ pub(crate) fn path_or_none(
 ) -> Result<Option<Path>, Unread>
     ensures { field.PathOrNoneRead (texts names.old) word.now (texts names.new) place result }
 {
-    match word {
-        "-" => Ok(None),
-        _ => {
-            let path = path(heap, names, word, place)?;
-            Ok(Some(path))
-        }
-    }
+    or_none(word, &mut |word| path(heap, names, word, place))
 }
 
-// The number of a module of the text.
+// The number of a module or a package of the text.
+fn listed(table: &Names, word: &str, place: usize, expected: Expected) -> Result<u32, Unread>
+    ensures { field.ListedRead (texts table.now) word.now place result }
+{
+    table.find(word).ok_or(Unread::Of((expected, place)))
+}
+
 fn module_number(
     modules: &Names,
     word: &str,
@@ -132,10 +132,7 @@ fn module_number(
 ) -> Result<ModuleId, Unread>
     ensures { field.ModuleRead (texts modules.now) word.now place result }
 {
-    match modules.find(word) {
-        Some(number) => Ok(ModuleId(number)),
-        None => Err(Unread::Of(expected, place)),
-    }
+    listed(modules, word, place, expected).map(ModuleId)
 }
 
 pub(crate) fn module(modules: &Names, word: &str, place: usize) -> Result<ModuleId, Unread>
@@ -151,23 +148,16 @@ pub(crate) fn module_or_none(
 ) -> Result<Option<ModuleId>, Unread>
     ensures { field.ModuleOrNoneRead (texts modules.now) word.now place result }
 {
-    match word {
-        "-" => Ok(None),
-        _ => {
-            let module = module_number(modules, word, place, Expected::ModuleOrNone)?;
-            Ok(Some(module))
-        }
-    }
+    or_none(
+        word,
+        &mut |word| module_number(modules, word, place, Expected::ModuleOrNone),
+    )
 }
 
-// The number of a package of the text.
 pub(crate) fn package(packages: &Names, word: &str, place: usize) -> Result<PackageId, Unread>
     ensures { field.PackageRead (texts packages.now) word.now place result }
 {
-    match packages.find(word) {
-        Some(number) => Ok(PackageId(number)),
-        None => Err(Unread::Of(Expected::PackageOrNone, place)),
-    }
+    listed(packages, word, place, Expected::PackageOrNone).map(PackageId)
 }
 
 pub(crate) fn package_or_none(
@@ -177,15 +167,10 @@ pub(crate) fn package_or_none(
 ) -> Result<Option<PackageId>, Unread>
     ensures { field.PackageOrNoneRead (texts packages.now) word.now place result }
 {
-    match word {
-        "-" => Ok(None),
-        _ => {
-            let package = package(packages, word, place)?;
-            Ok(Some(package))
-        }
-    }
+    or_none(word, &mut |word| package(packages, word, place))
 }
 
+// No `FromStr` in `host`, here and below: the words are those of this text form, which `host` knows nothing of.
 pub(crate) fn module_kind(word: &str, place: usize) -> Result<ModuleKind, Unread>
     ensures { field.ModuleKindRead word.now place result }
 {
@@ -196,7 +181,7 @@ pub(crate) fn module_kind(word: &str, place: usize) -> Result<ModuleKind, Unread
         "json" => Ok(ModuleKind::Json),
         "wasm" => Ok(ModuleKind::Wasm),
         "external" => Ok(ModuleKind::External),
-        _ => Err(Unread::Of(Expected::ModuleKind, place)),
+        _ => Err(Unread::Of((Expected::ModuleKind, place))),
     }
 }
 
@@ -207,6 +192,6 @@ pub(crate) fn namespace(word: &str, place: usize) -> Result<ReferenceNamespace, 
         "value" => Ok(ReferenceNamespace::Value),
         "type" => Ok(ReferenceNamespace::Type),
         "both" => Ok(ReferenceNamespace::Both),
-        _ => Err(Unread::Of(Expected::Namespace, place)),
+        _ => Err(Unread::Of((Expected::Namespace, place))),
     }
 }

@@ -7,6 +7,7 @@ use host::SymbolDeclFlags;
 use std::alloc::Global;
 use words::comma_pieces;
 
+// One flag. The definitions say a set of flags as a list of these.
 #[derive(Clone, Copy)]
 pub(crate) enum Flag {
     Overloads,
@@ -19,18 +20,7 @@ pub(crate) enum Flag {
     Scope,
 }
 
-// No flag stands.
-pub(crate) const UNFLAGGED: SymbolDeclFlags = SymbolDeclFlags {
-    overloads: false,
-    body: false,
-    export: false,
-    private: false,
-    member: false,
-    function: false,
-    class: false,
-    scope: false,
-};
-
+// The flag that a word names. No `FromStr` in `host`: the words are those of this text form, which `host` knows nothing of.
 fn flag_of(word: &str) -> Option<Flag>
     ensures { MatchOption result (spec.Flagless word.now) (λ f. word.now ≡ spec.flag_word f) }
 {
@@ -66,10 +56,11 @@ fn raise(flags: &mut SymbolDeclFlags, flag: Flag)
 fn all_raised(words: &[&str], place: usize) -> Result<SymbolDeclFlags, Unread>
     ensures { spec.RaisedRead (map (λ x. x.now) words.now) place result }
 {
-    let mut flags = UNFLAGGED;
+    let mut flags = SymbolDeclFlags::default();
     for word in words {
+        // `ok_or(..)?` was tried: the proof of the refusal, which `?` converts there, did not close.
         let Some(flag) = flag_of(word) else {
-            return Err(Unread::Of(Expected::Flags, place));
+            return Err(Unread::Of((Expected::Flags, place)));
         };
         raise(&mut flags, flag);
     }
@@ -80,7 +71,7 @@ pub(crate) fn flags(heap: Global, word: &str, place: usize) -> Result<SymbolDecl
     ensures { spec.FlagsRead word.now place result }
 {
     match word {
-        "-" => Ok(UNFLAGGED),
+        "-" => Ok(SymbolDeclFlags::default()),
         _ => {
             let pieces = comma_pieces(heap, word)?;
             all_raised(pieces.as_slice(), place)

@@ -1,8 +1,10 @@
-// The words of a line become an item, one function for each form of a line.
+// The words of a line become an item, one function for each form of a line. A form takes its words one by one, in their
+// order on the line: a struct of some of them would be built at one place and taken apart at the next.
 ghost use Rattle.std.specs.Prelude.{◌≡◌, [], ◌∷◌, codes};
 ghost use Rattle.record_text.specs.declared.items.Item.TheVariants.{Part};
 ghost use Rattle.record_text.specs.declared.items.ModulePart.TheVariants.{Inner};
 ghost use Rattle.record_text.specs.declared.items.SymbolPart.TheVariants.{Declares};
+ghost use Rattle.record_text.specs.declared.texts.Texts.{Texts};
 ghost use Rattle.record_text.specs.Forms.{Formed, HeadRead};
 
 use crate::faults::{Expected, Unread};
@@ -19,35 +21,37 @@ use crate::texts::Texts;
 use host::{Dependency, Export, FileDep, ReExportAll, SymbolNodeDep};
 use std::alloc::Global;
 
-pub(crate) fn package_line(texts: &mut Texts, name: &str) -> Result<Item, Unread>
-    ensures { Formed texts.old (codes "package" ∷ name.now ∷ []) texts.new result }
+// A package without an export table. It and the next differ in the words that a line has, and each contract says its own.
+pub(crate) fn package_line(texts: &Texts, name: &str) -> Result<Item, Unread>
+    ensures { Formed texts.now (codes "package" ∷ name.now ∷ []) texts.now result }
 {
     Ok(Item::Package(package(&texts.packages, name, 1)?, false))
 }
 
-pub(crate) fn package_exports(texts: &mut Texts, name: &str, last: &str) -> Result<Item, Unread>
-    ensures { Formed texts.old (codes "package" ∷ name.now ∷ last.now ∷ []) texts.new result }
+// A package with an export table.
+pub(crate) fn package_exports(texts: &Texts, name: &str, last: &str) -> Result<Item, Unread>
+    ensures { Formed texts.now (codes "package" ∷ name.now ∷ last.now ∷ []) texts.now result }
 {
     match last {
         "exports" => Ok(Item::Package(package(&texts.packages, name, 1)?, true)),
-        _ => Err(Unread::Of(Expected::PackageWords, 2)),
+        _ => Err(Unread::Of((Expected::PackageWords, 2))),
     }
 }
 
-pub(crate) fn entry(texts: &mut Texts, target: &str) -> Result<Item, Unread>
-    ensures { Formed texts.old (codes "entry" ∷ target.now ∷ []) texts.new result }
+pub(crate) fn entry(texts: &Texts, target: &str) -> Result<Item, Unread>
+    ensures { Formed texts.now (codes "entry" ∷ target.now ∷ []) texts.now result }
 {
     Ok(Item::Entry(module(&texts.modules, target, 1)?))
 }
 
 pub(crate) fn module_line(
-    texts: &mut Texts,
+    texts: &Texts,
     name: &str,
     kind: &str,
     owner: &str,
     types: &str,
 ) -> Result<Item, Unread>
-    ensures { Formed texts.old (codes "module" ∷ name.now ∷ kind.now ∷ owner.now ∷ types.now ∷ []) texts.new result }
+    ensures { Formed texts.now (codes "module" ∷ name.now ∷ kind.now ∷ owner.now ∷ types.now ∷ []) texts.now result }
 {
     let number = module(&texts.modules, name, 1)?;
     let kind = module_kind(kind, 2)?;
@@ -84,8 +88,8 @@ pub(crate) fn export_all(
     Ok(Item::Part(ModulePart::ExportsAll(all)))
 }
 
-pub(crate) fn symbol_line(texts: &mut Texts, parent: &str) -> Result<Item, Unread>
-    ensures { Formed texts.old (codes "symbol" ∷ parent.now ∷ []) texts.new result }
+pub(crate) fn symbol_line(parent: &str) -> Result<Item, Unread>
+    ensures { (t : Texts) → Formed t (codes "symbol" ∷ parent.now ∷ []) t result }
 {
     let parent = symbol_or_none(parent, 1)?;
     Ok(Item::Part(ModulePart::Symbol(parent)))
@@ -105,8 +109,8 @@ pub(crate) fn export(texts: &mut Texts, exported: &str, target: &str) -> Result<
     Ok(inner(SymbolPart::Exports(Export { name, symbol })))
 }
 
-pub(crate) fn member(texts: &mut Texts, target: &str) -> Result<Item, Unread>
-    ensures { Formed texts.old (codes "member" ∷ target.now ∷ []) texts.new result }
+pub(crate) fn member(target: &str) -> Result<Item, Unread>
+    ensures { (t : Texts) → Formed t (codes "member" ∷ target.now ∷ []) t result }
 {
     Ok(inner(SymbolPart::Member(symbol(target, 1)?)))
 }
@@ -190,8 +194,8 @@ pub(crate) fn definition(
     Ok(declared(head, DeclarationKind::Defines(kind, flags)))
 }
 
-pub(crate) fn id(texts: &mut Texts, target: &str, how: &str) -> Result<Item, Unread>
-    ensures { Formed texts.old (codes "id" ∷ target.now ∷ how.now ∷ []) texts.new result }
+pub(crate) fn id(target: &str, how: &str) -> Result<Item, Unread>
+    ensures { (t : Texts) → Formed t (codes "id" ∷ target.now ∷ how.now ∷ []) t result }
 {
     let target = symbol_or_none(target, 1)?;
     let namespace = namespace(how, 2)?;

@@ -7,7 +7,7 @@ use ids::{ModuleId, NameId, PackageId, Path, SymbolId};
 
 #[derive(Clone, Copy)]
 pub(crate) enum Item {
-    // a package, and whether it has an export table
+    // a package, and whether it has an export table: both are told of each package, so the flag guards no value
     Package(PackageId, bool),
     // an entry module of the package above
     Entry(ModuleId),
@@ -54,6 +54,7 @@ pub(crate) struct Declaration {
     pub(crate) kind: DeclarationKind,
 }
 
+// An enum beside the tables' `DeclKindTable`: a line has the flags of a definition, and no list of references yet.
 #[derive(Clone, Copy)]
 pub(crate) enum DeclarationKind {
     Alias(Option<SymbolId>),

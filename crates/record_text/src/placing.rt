@@ -1,37 +1,38 @@
 // Items go to their places in the tables.
-ghost use Rattle.std.specs.Prelude.{◌≡◌, map};
+ghost use Rattle.std.specs.Prelude.{◌≡◌};
+ghost use Rattle.std.specs.Fn.{FnOnceReturnsAtMut};
 ghost use Rattle.table_rules.specs.Meaning.{decl_of, symbol_of, module_of, package_of};
 ghost use Rattle.record_text.specs.declared.items.Item.TheVariants.{Package as OnePackage, Entry, Module as OneModule, Part};
 ghost use Rattle.record_text.specs.Placing as spec;
 
 use crate::draft::{Draft, Open};
 use crate::faults::{Expected, Unplaced};
-use crate::flagging::UNFLAGGED;
 use crate::items::{Declaration, DeclarationKind, Item, ModuleHead, ModulePart, SymbolPart};
-use host::SymbolNodeDep;
+use host::{SymbolDeclFlags, SymbolNodeDep};
 use ids::{ModuleId, PackageId, SymbolId};
 use std::alloc::Global;
 use table_rules::{DeclKindTable, DeclTable, ModuleTable, PackageTable, SymbolTable};
 
+// Adds to the last of some items.
+fn on_last<T: Drop, F: FnOnce(&mut T) -> Result<(), Unplaced>>(
+    items: &mut Vec<T>,
+    missing: Expected,
+    add: F,
+) -> Result<(), Unplaced>
+    requires { F.IsAlwaysCallable add }
+    ensures { spec.LastChanged (FnOnceReturnsAtMut F.FnOnce add) items.old.items items.new.items result }
+{
+    add(items.last_mut().ok_or(Unplaced::Of(missing))?)
+}
+
 fn add_reference(decl: &mut DeclTable, reference: SymbolNodeDep) -> Result<(), Unplaced>
     ensures { spec.Adds (spec.referring reference) (decl_of decl.old) (decl_of decl.new) result }
 {
-    match &mut decl.kind {
-        DeclKindTable::Definition(_, deps) => {
-            deps.push(reference)?;
-            Ok(())
-        }
-        _ => Err(Unplaced::Needs(Expected::DefinitionAbove)),
-    }
-}
-
-fn add_to_last_decl(decls: &mut Vec<DeclTable>, reference: SymbolNodeDep) -> Result<(), Unplaced>
-    ensures { spec.Adds (spec.on_last (spec.referring reference)) (map decl_of decls.old.items) (map decl_of decls.new.items) result }
-{
-    match decls.last_mut() {
-        Some(decl) => add_reference(decl, reference),
-        None => Err(Unplaced::Needs(Expected::DefinitionAbove)),
-    }
+    let DeclKindTable::Definition(_, deps) = &mut decl.kind else {
+        return Err(Unplaced::Of(Expected::DefinitionAbove));
+    };
+    deps.push(reference)?;
+    Ok(())
 }
 
 // A declaration as its line has it.
@@ -39,11 +40,17 @@ fn begun(heap: Global, declaration: Declaration) -> DeclTable
     ensures { decl_of result ≡ spec.decl_begun declaration }
 {
     let (flags, kind) = match declaration.kind {
-        DeclarationKind::Alias(target) => (UNFLAGGED, DeclKindTable::Target(target)),
+        DeclarationKind::Alias(target) => (
+            SymbolDeclFlags::default(),
+            DeclKindTable::Target(target),
+        ),
         DeclarationKind::QualifiedAlias(target, path) => {
-            (UNFLAGGED, DeclKindTable::QualifiedTarget(target, path))
+            (
+                SymbolDeclFlags::default(),
+                DeclKindTable::QualifiedTarget(target, path),
+            )
         }
-        DeclarationKind::File(file) => (UNFLAGGED, DeclKindTable::FileRef(file)),
+        DeclarationKind::File(file) => (SymbolDeclFlags::default(), DeclKindTable::FileRef(file)),
         DeclarationKind::Defines(kind, flags) => {
             (flags, DeclKindTable::Definition(kind, Vec::new(heap)))
         }
@@ -63,22 +70,13 @@ fn add_to_symbol(heap: Global, symbol: &mut SymbolTable, part: SymbolPart) -> Re
         SymbolPart::Exports(export) => symbol.exports.push(export)?,
         SymbolPart::Member(member) => symbol.members.push(member)?,
         SymbolPart::Declares(declaration) => symbol.decls.push(begun(heap, declaration))?,
-        SymbolPart::Refers(reference) => add_to_last_decl(&mut symbol.decls, reference)?,
+        SymbolPart::Refers(reference) => on_last(
+            &mut symbol.decls,
+            Expected::DefinitionAbove,
+            |decl| add_reference(decl, reference),
+        )?,
     }
     Ok(())
-}
-
-fn add_to_last_symbol(
-    heap: Global,
-    symbols: &mut Vec<SymbolTable>,
-    part: SymbolPart,
-) -> Result<(), Unplaced>
-    ensures { spec.Adds (spec.on_last (spec.in_symbol part)) (map symbol_of symbols.old.items) (map symbol_of symbols.new.items) result }
-{
-    match symbols.last_mut() {
-        Some(symbol) => add_to_symbol(heap, symbol, part),
-        None => Err(Unplaced::Needs(Expected::SymbolAbove)),
-    }
 }
 
 // A symbol with nothing in it.
@@ -100,51 +98,32 @@ fn add_to_module(heap: Global, module: &mut ModuleTable, part: ModulePart) -> Re
         ModulePart::Depends(dependency) => module.dependencies.push(dependency)?,
         ModulePart::ExportsAll(all) => module.re_export_alls.push(all)?,
         ModulePart::Symbol(parent) => module.symbols.push(symbol_begun(heap, parent))?,
-        ModulePart::Inner(part) => add_to_last_symbol(heap, &mut module.symbols, part)?,
+        ModulePart::Inner(part) => on_last(
+            &mut module.symbols,
+            Expected::SymbolAbove,
+            |symbol| add_to_symbol(heap, symbol, part),
+        )?,
     }
     Ok(())
-}
-
-fn add_to_last_module(
-    heap: Global,
-    modules: &mut Vec<ModuleTable>,
-    part: ModulePart,
-) -> Result<(), Unplaced>
-    ensures { spec.Adds (spec.on_last (spec.in_module part)) (map module_of modules.old.items) (map module_of modules.new.items) result }
-{
-    match modules.last_mut() {
-        Some(module) => add_to_module(heap, module, part),
-        None => Err(Unplaced::Needs(Expected::ModuleAbove)),
-    }
 }
 
 fn add_entry(package: &mut PackageTable, module: ModuleId) -> Result<(), Unplaced>
     ensures { spec.Adds (spec.in_package «module») (package_of «package».old) (package_of «package».new) result }
 {
-    match &mut package.entries {
-        Some(entries) => {
-            entries.push(module)?;
-            Ok(())
-        }
-        None => Err(Unplaced::Needs(Expected::ExportTableAbove)),
-    }
-}
-
-fn add_to_last_package(packages: &mut Vec<PackageTable>, module: ModuleId) -> Result<(), Unplaced>
-    ensures { spec.Adds (spec.on_last (spec.in_package «module»)) (map package_of packages.old.items) (map package_of packages.new.items) result }
-{
-    match packages.last_mut() {
-        Some(package) => add_entry(package, module),
-        None => Err(Unplaced::Needs(Expected::ExportTableAbove)),
-    }
+    let entries = package.entries.as_mut();
+    entries
+        .ok_or(Unplaced::Of(Expected::ExportTableAbove))?
+        .push(module)?;
+    Ok(())
 }
 
 // A package with no entry module.
 fn package_begun(heap: Global, listed: bool) -> PackageTable
     ensures { package_of result ≡ spec.package_begun listed }
 {
-    let entries = if listed { Some(Vec::new(heap)) } else { None };
-    PackageTable { entries }
+    PackageTable {
+        entries: listed.then(|| Vec::new(heap)),
+    }
 }
 
 // A module with nothing in it.
@@ -161,6 +140,22 @@ fn module_begun(heap: Global, head: ModuleHead) -> ModuleTable
     }
 }
 
+// Adds an item, where its number is the next.
+fn add_next<T: Drop>(
+    items: &mut Vec<T>,
+    number: u32,
+    item: T,
+    taken: Expected,
+) -> Result<(), Unplaced>
+    ensures { spec.NextAdded number item items.old.items items.new.items result }
+{
+    if number as usize != items.len() {
+        return Err(Unplaced::Of(taken));
+    }
+    items.push(item)?;
+    Ok(())
+}
+
 fn place_package(
     heap: Global,
     draft: &mut Draft,
@@ -169,11 +164,14 @@ fn place_package(
 ) -> Result<(), Unplaced>
     ensures { spec.Places (OnePackage «package» listed) draft.old draft.new result }
 {
-    if package.0 as usize != draft.table.packages.len() {
-        return Err(Unplaced::Needs(Expected::NewPackage));
-    }
-    draft.table.packages.push(package_begun(heap, listed))?;
-    draft.open = Open::Package;
+    let begun = package_begun(heap, listed);
+    add_next(
+        &mut draft.table.packages,
+        package.0,
+        begun,
+        Expected::NewPackage,
+    )?;
+    draft.open = Some(Open::Package);
     Ok(())
 }
 
@@ -185,11 +183,14 @@ fn place_module(
 ) -> Result<(), Unplaced>
     ensures { spec.Places (OneModule «module» head) draft.old draft.new result }
 {
-    if module.0 as usize != draft.table.modules.len() {
-        return Err(Unplaced::Needs(Expected::NewModule));
-    }
-    draft.table.modules.push(module_begun(heap, head))?;
-    draft.open = Open::Module;
+    let begun = module_begun(heap, head);
+    add_next(
+        &mut draft.table.modules,
+        module.0,
+        begun,
+        Expected::NewModule,
+    )?;
+    draft.open = Some(Open::Module);
     Ok(())
 }
 
@@ -197,8 +198,12 @@ fn place_entry(draft: &mut Draft, module: ModuleId) -> Result<(), Unplaced>
     ensures { spec.Places (Entry «module») draft.old draft.new result }
 {
     match draft.open {
-        Open::Package => add_to_last_package(&mut draft.table.packages, module),
-        _ => Err(Unplaced::Needs(Expected::ExportTableAbove)),
+        Some(Open::Package) => on_last(
+            &mut draft.table.packages,
+            Expected::ExportTableAbove,
+            |package| add_entry(package, module),
+        ),
+        _ => Err(Unplaced::Of(Expected::ExportTableAbove)),
     }
 }
 
@@ -206,8 +211,12 @@ fn place_part(heap: Global, draft: &mut Draft, part: ModulePart) -> Result<(), U
     ensures { spec.Places (Part part) draft.old draft.new result }
 {
     match draft.open {
-        Open::Module => add_to_last_module(heap, &mut draft.table.modules, part),
-        _ => Err(Unplaced::Needs(Expected::ModuleAbove)),
+        Some(Open::Module) => on_last(
+            &mut draft.table.modules,
+            Expected::ModuleAbove,
+            |module| add_to_module(heap, module, part),
+        ),
+        _ => Err(Unplaced::Of(Expected::ModuleAbove)),
     }
 }
 

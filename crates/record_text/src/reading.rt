@@ -3,8 +3,8 @@ ghost use Rattle.record_text.specs.Reading as spec;
 ghost use Rattle.std.specs.Prelude.{map, length};
 
 use crate::collecting::collect;
-use crate::draft::{Draft, Open};
-use crate::faults::{Expected, Fault, Unplaced, Unread};
+use crate::draft::Draft;
+use crate::faults::{Fault, Unplaced, Unread};
 use crate::listing::{Listing, Reader};
 use crate::parsing::parse;
 use crate::placing::place;
@@ -12,42 +12,14 @@ use std::alloc::Global;
 use table_rules::ProgramTable;
 use words::words;
 
-// The fault at a word of a line.
-fn fault(heap: Global, number: usize, expected: Expected, word: &str) -> Fault
-    ensures { spec.FaultAt number word.now result }
+// The fault of a line of these words.
+fn fault(unread: Unread, heap: Global, number: usize, words: &[&str]) -> Fault
+    requires { spec.Below (length words.now) unread }
+    ensures { spec.UnreadAt unread number (map (λ x. x.now) words.now) result }
 {
-    match String::from_str(heap, word) {
-        Ok(word) => Fault::Line {
-            number,
-            expected,
-            word,
-        },
-        Err(_) => Fault::NoMemory,
-    }
-}
-
-impl Unread {
-    // The fault of a line of these words.
-    fn at(self, heap: Global, number: usize, words: &[&str]) -> Fault
-        requires { spec.Below (length words.now) self }
-        ensures { spec.UnreadAt self number (map (λ x. x.now) words.now) result }
-    {
-        match self {
-            Unread::Of(expected, place) => fault(heap, number, expected, words[place]),
-            Unread::NoMemory => Fault::NoMemory,
-        }
-    }
-}
-
-impl Unplaced {
-    // The fault of a line with this keyword.
-    fn at(self, heap: Global, number: usize, keyword: &str) -> Fault
-        ensures { spec.UnplacedAt self number keyword.now result }
-    {
-        match self {
-            Unplaced::Needs(expected) => fault(heap, number, expected, keyword),
-            Unplaced::NoMemory => Fault::NoMemory,
-        }
+    match unread {
+        Unread::Of((expected, place)) => Unplaced::Of(expected).at(heap, number, words[place]),
+        Unread::NoMemory => Fault::NoMemory,
     }
 }
 
@@ -62,10 +34,7 @@ impl Reader {
             packages: Vec::new(heap),
             modules: Vec::new(heap),
         };
-        let draft = Draft {
-            table,
-            open: Open::Nothing,
-        };
+        let draft = Draft { table, open: None };
         Ok(Reader { texts, draft })
     }
 
@@ -76,14 +45,10 @@ impl Reader {
         let Some((keyword, rest)) = words.split_first() else {
             return Ok(());
         };
-        let item = match parse(heap, &mut self.texts, keyword, rest) {
-            Ok(item) => item,
-            Err(unread) => return Err(unread.at(heap, number, words)),
-        };
-        match place(heap, &mut self.draft, item) {
-            Ok(()) => Ok(()),
-            Err(unplaced) => Err(unplaced.at(heap, number, keyword)),
-        }
+        let item = parse(heap, &mut self.texts, keyword, rest).map_err(|unread| fault(
+            unread, heap, number, words,
+        ))?;
+        place(heap, &mut self.draft, item).map_err(|unplaced| unplaced.at(heap, number, keyword))
     }
 
     // Adds what a line says, if anything.
@@ -110,15 +75,14 @@ impl Reader {
     }
 }
 
-// Reads a whole text, or says what is wrong with the first line that cannot be read.
+// Reads a whole text, or says what is wrong with the first line that cannot be read. The reader of requests has such a loop
+// too: a closure that changes what has been read would tell a shared one nothing of it.
 pub fn read(heap: Global, text: &str) -> Result<Listing, Fault>
     ensures { spec.Read text.now result }
 {
     let mut reader = Reader::begun(heap, text)?;
-    let mut number = 0;
-    for line in text.lines() {
-        number += 1;
-        reader.add_line(heap, number, line)?;
+    for (before, line) in text.lines().enumerate() {
+        reader.add_line(heap, before + 1, line)?;
     }
     Ok(reader.listed())
 }

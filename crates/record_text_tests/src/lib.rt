@@ -4,14 +4,14 @@
 #[cfg(test)]
 mod tests {
     use host::{
-        FileDepName, Host, ModuleKind, NodeKind, ReferenceNamespace, SymbolDeclKind, SymbolNodeDep,
+        FileDep, FileDepName, Host, ModuleKind, NodeKind, ReferenceNamespace, SymbolDeclKind,
+        SymbolNodeDep,
     };
     use ids::{ModuleId, PackageId, SymbolId};
     use record_text::{Expected, Fault, read};
     use std::alloc::Global;
     use std::test::Fail;
     use tables::Tables;
-    use words::Names;
 
     // One line of each form.
     const BAKERY: &str = "\
@@ -44,23 +44,16 @@ module rye.ts typed bakery -
 module flour.d.ts external bakery -
 ";
 
-    fn is(names: &Names, number: u32, text: &str) -> bool {
-        match names.text(number) {
-            Some(found) => found == text,
-            None => false,
-        }
-    }
-
     #[test]
     fn every_form(rt: HostRuntime) -> Result<(), Fail> {
         let listing = read(rt.alloc(), BAKERY)?;
-        assert!(rt; is(&listing.modules, 1, "rye.ts"));
+        assert!(rt; listing.modules.text(1) == Some("rye.ts"));
         assert_eq!(rt; listing.modules.len(), 3);
-        assert!(rt; is(&listing.packages, 1, "plain"));
+        assert!(rt; listing.packages.text(1) == Some("plain"));
         assert_eq!(rt; listing.packages.len(), 2);
-        assert!(rt; is(&listing.names, 0, "default"));
-        assert!(rt; is(&listing.names, 2, "./flour.js"));
-        assert!(rt; is(&listing.names, 3, "./gone.ts"));
+        assert!(rt; listing.names.text(0) == Some("default"));
+        assert!(rt; listing.names.text(2) == Some("./flour.js"));
+        assert!(rt; listing.names.text(3) == Some("./gone.ts"));
         let names = listing.names.len();
         let host = Tables::load(listing.table)?;
         assert_eq!(rt; host.names(), names as usize);
@@ -78,7 +71,7 @@ module flour.d.ts external bakery -
         let listing = read(rt.alloc(), BAKERY)?;
         let host = Tables::load(listing.table)?;
         let rye = host.module(ModuleId(1)).ok_or("no module")?;
-        assert!(rt; matches!(rye.kind, ModuleKind::Typed));
+        assert_eq!(rt; rye.kind, ModuleKind::Typed);
         assert_eq!(rt; rye.dependencies, 2);
         assert_eq!(rt; rye.re_export_alls, 1);
         assert_eq!(rt; rye.symbols, 2);
@@ -97,32 +90,35 @@ module flour.d.ts external bakery -
         let host = Tables::load(listing.table)?;
         assert!(rt; asks_for_all(&host, 2));
         assert!(rt; !asks_for_all(&host, 3));
-        let Some(loaf) = host.decl(ModuleId(1), SymbolId(1), 0) else {
-            return Err(Fail::new("no declaration"));
-        };
+        let loaf = host
+            .decl(ModuleId(1), SymbolId(1), 0)
+            .ok_or("no declaration")?;
         assert_eq!(rt; loaf.range.start, 71);
         assert_eq!(rt; loaf.range.end, 99);
         assert!(rt; loaf.flags.export && loaf.flags.class && !loaf.flags.body);
-        match loaf.kind {
-            SymbolDeclKind::Definition(NodeKind::ExportClass, deps) => assert_eq!(rt; deps, 5),
-            _ => return Err(Fail::new("no definition")),
-        }
-        let Some(second) = host.dep(ModuleId(1), SymbolId(1), 0, 1) else {
-            return Err(Fail::new("no reference"));
-        };
-        assert!(rt; matches!(second, SymbolNodeDep::Id(None, ReferenceNamespace::Type)));
+        assert_eq!(rt;
+            loaf.kind,
+            SymbolDeclKind::Definition(NodeKind::ExportClass, 5)
+        );
+        let second = host
+            .dep(ModuleId(1), SymbolId(1), 0, 1)
+            .ok_or("no reference")?;
+        assert_eq!(rt; second, SymbolNodeDep::Id(None, ReferenceNamespace::Type));
         Ok(())
     }
 
     // Whether the declaration at a place of the first symbol asks a file for all that it has.
     fn asks_for_all(host: &Tables, place: usize) -> bool {
-        let Some(decl) = host.decl(ModuleId(1), SymbolId(0), place) else {
-            return false;
-        };
-        match decl.kind {
-            SymbolDeclKind::FileRef(file) => matches!(file.name, FileDepName::Star),
-            _ => false,
-        }
+        host.decl(ModuleId(1), SymbolId(0), place)
+            .is_some_and(|decl| {
+                matches!(
+                    decl.kind,
+                    SymbolDeclKind::FileRef(FileDep {
+                        name: FileDepName::Star,
+                        ..
+                    })
+                )
+            })
     }
 
     // The example of docs/RECORDS.md.
@@ -148,26 +144,21 @@ module rye.ts typed bakery -
         Ok(())
     }
 
-    // The line and what was expected of a text that is not read.
+    // The line and what was expected of a text that is not read. The tests of requests have such a pair of functions
+    // too: a crate of tests alone has none that another crate could call.
     fn expected(heap: Global, text: &str) -> Result<(usize, Expected), Fail> {
-        match read(heap, text) {
-            Ok(_) => Err(Fail::new("no fault")),
-            Err(
-                Fault::Line {
-                    number,
-                    expected,
-                    word: _,
-                },
-            ) => Ok((number, expected)),
-            Err(Fault::NoMemory) => Err(Fail::new("no memory")),
+        match read(heap, text).err().ok_or("no fault")? {
+            Fault::Line {
+                number,
+                problem,
+                ..
+            } => Ok((number, problem)),
+            Fault::NoMemory => Err(Fail::new("no memory")),
         }
     }
 
     fn message(heap: Global, text: &str) -> Result<String, Fail> {
-        match read(heap, text) {
-            Ok(_) => Err(Fail::new("no fault")),
-            Err(fault) => Ok(fault.to_string(heap)?),
-        }
+        Ok(read(heap, text).err().ok_or("no fault")?.to_string(heap)?)
     }
 
     #[test]

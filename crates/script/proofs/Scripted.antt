@@ -6,22 +6,24 @@ use Rattle.std.proofs.lemmas.List.{append_assoc, append-nil, length_push, nil_fr
 use Rattle.joining.specs.declared.requests.Request.{Request}
 use Rattle.joining.specs.declared.requests.Request.TheVariants.{Path as Ask, Star, Full}
 use Rattle.ids.specs.Paths.{names_of}
-use Rattle.script.specs.declared.faults.Fault.{Fault}
-use Rattle.script.specs.declared.faults.Fault.TheVariants.{Line as At, NoMemory}
 use Rattle.script.specs.declared.faults.Problem.{Problem}
 use Rattle.script.specs.declared.faults.Problem.TheVariants.{NoRequest, TooManyWords, EmptyName, TooManyNames, TooManyModules, TooManyDistinctNames}
-use Rattle.script.specs.declared.faults.Unread.TheVariants.{Of}
 use Rattle.script.specs.declared.requests.Line.{Line}
 use Rattle.script.specs.declared.requests.Requests.{Requests}
-use Rattle.script.specs.declared.words.Row.TheVariants.{Wrong}
-use Rattle.script.specs.Faults.{Placed}
-use Rattle.script.specs.Interned.{firsts, Numbered}
 use Rattle.script.specs.Rows.{Rowed}
-use Rattle.script.specs.Scripts.{Asked, LineAdded, Misasked, Faulty, RowLines, Rows, Lines, Tells, Knows, Climbs, Script, Read}
-use Rattle.script.specs.Spelled.{Asks, Extends}
-use Rattle.script.specs.Texts.{Text}
-use Rattle.script.specs.Words.{Says}
-use Rattle.script.proofs.Numbering.{extends_on, text_kept, texts_kept, known_kept, longer}
+use Rattle.script.specs.Scripts.{Asked, LineAdded, Misasked, Faulty, RowLines, Rows, Tells, Knows, Climbs, Script}
+use Rattle.script.specs.Spelled.{Asks, bare}
+use Rattle.words.specs.declared.faults.Fault.{Fault}
+use Rattle.words.specs.declared.faults.Fault.TheVariants.{Line as At, NoMemory}
+use Rattle.words.specs.declared.faults.Unread.TheVariants.{Of}
+use Rattle.words.specs.Faults.{Placed}
+use Rattle.words.specs.Interned.{firsts}
+use Rattle.words.specs.Lines.{Lines}
+use Rattle.words.specs.Spelled.{Extends}
+use Rattle.words.specs.Texts.{Text}
+use Rattle.words.specs.Words.{Says}
+use Rattle.words.proofs.Lined.{lines_push}
+use Rattle.words.proofs.Numbering.{extends_on, numbered_kept, spells_kept}
 
 -- two words that are not read make their line faulty
 misasked : (l m w s : Text) (p : Problem) → Says l (m ∷ w ∷ []) → Misasked m w p s → Faulty l p s
@@ -32,13 +34,13 @@ misasked l m w s (TooManyNames n) says h = (m, w, says, h)
 misasked l m w s TooManyModules says h = (m, w, says, h)
 misasked l m w s TooManyDistinctNames says h = (m, w, says, h)
 
-pub asked_adds : (before after : Requests) (k : ℕ) (l m w : Text) (r : Result (Unit {0}) Fault) → Says l (m ∷ w ∷ []) → Asked before k m w after r → LineAdded before k l after r
+pub asked_adds : (before after : Requests) (k : ℕ) (l m w : Text) (r : Result (Unit {0}) (Fault Problem)) → Says l (m ∷ w ∷ []) → Asked before k m w after r → LineAdded before k l after r
 asked_adds before after k l m w (Ok u) says (grew, (x, tells, e)) = (grew, (x ∷ [], (m, w, says, tells), e))
 asked_adds before after k l m w (Err (At n p s)) says (same, h) = (same, misasked l m w (string_bytes s) p says h)
 asked_adds before after k l m w (Err NoMemory) says h = tt
 
 -- so does a wrong number of words
-miscounted : (l : Text) (p : Problem) (x : Bor Text) → Rowed l (Wrong p x) → Faulty l p x.now
+miscounted : (l : Text) (p : Problem) (x : Bor Text) → Rowed l (Err (p, x)) → Faulty l p x.now
 miscounted l NoRequest x h = h
 miscounted l TooManyWords x h = h
 miscounted l EmptyName x h = absurd h
@@ -46,7 +48,7 @@ miscounted l (TooManyNames n) x h = absurd h
 miscounted l TooManyModules x h = absurd h
 miscounted l TooManyDistinctNames x h = absurd h
 
-pub wrong_adds : (before after : Requests) (k : ℕ) (l : Text) (p : Problem) (x : Bor Text) (f : Fault) → Rowed l (Wrong p x) → Placed (Of p) k x.now f → LineAdded before k l after (Err f)
+pub wrong_adds : (before after : Requests) (k : ℕ) (l : Text) (p : Problem) (x : Bor Text) (f : Fault Problem) → Rowed l (Err (p, x)) → Placed (Of p) k x.now f → LineAdded before k l after (Err f)
 wrong_adds before after k l p x (At n q s) row (which, same, word) =
     let one : p ≡ q = cc in
     (same, subst (λ (v : Problem). Faulty l v (string_bytes s)) one (subst (Faulty l p) (sym word) (miscounted l p x row)))
@@ -59,40 +61,12 @@ pub record Sofar (w rest : Text) (number : ℕ) (mods names : List Text) (xs : L
   pub lines : Lines w ls rest
   pub rows : Rows mods names 1 ls xs
   pub count : number ≡ length ls
-  pub room : number + length rest ≤ length w
-
-pub begins : (w rest : Text) (mods names : List Text) (xs : List Line) → rest ≡ w → names ≡ firsts → xs ≡ [] → Sofar w rest 0 mods names xs
-begins w rest mods names xs same first none =
-    record {
-      begun = ([], first ∙ sym (append-nil firsts));
-      ls = [];
-      lines = sym same;
-      rows = none;
-      count = refl;
-      room = omega (arith, ap length same);
-    }
-
-lines_push : (w : Text) (ls : List Text) (rest l after : Text) → Lines w ls rest → 0 < length rest → FirstLine rest l after → Lines w (ls ++ l ∷ []) after
-lines_push w [] rest l after same some first = (after, subst (λ (v : Text). 0 < length v) (sym same) some, subst (λ (v : Text). FirstLine v l after) (sym same) first, refl)
-lines_push w (x ∷ ls) rest l after (next, here, front, more) some first = (next, here, front, lines_push next ls rest l after more some first)
 
 -- what is known of the tables stays true as they grow
-numbered_kept : (ts us : List Text) (t : Text) (n : ℕ) → Extends ts us → Numbered ts t n → Numbered us t n
-numbered_kept ts us t n ext h = record { within = omega (arith, h.within, longer ts us ext); same = text_kept ts us n ext h.within ∙ h.same }
-
 asks_kept : (ts us : List Text) (w : Text) (r : Request) → Extends ts us → Asks ts w r → Asks us w r
 asks_kept ts us w Star ext h = h
 asks_kept ts us w Full ext h = h
-asks_kept ts us w (Ask p) ext (spells, star, full) =
-    let same = texts_kept ts us (names_of p) ext spells.known in (
-      record {
-        known = known_kept ts us (names_of p) ext spells.known;
-        pieces = rw same spells.pieces;
-        solid = rw same spells.solid;
-      },
-      star,
-      full,
-    )
+asks_kept ts us w (Ask p) ext (spells, star, full) = (spells_kept ts us (bare w) (names_of p) ext spells, star, full)
 
 row_kept : (mods mods' names names' : List Text) (k : ℕ) (l : Text) (out : List Line) → Extends mods mods' → Extends names names' → RowLines mods names k l out → RowLines mods' names' k l out
 row_kept mods mods' names names' k l [] more yet h = h
@@ -121,8 +95,8 @@ rows_push mods names k j (x ∷ ls) l xs out at (o, rest, e, first, rows) row =
     (o, rest ++ out, ap (λ ys. ys ++ out) e ∙ append_assoc o rest out, first, rows_push mods names (k + 1) j ls l rest out (omega arith) rows row)
 
 -- a turn of the loop
-pub one_more_line : (w rest after l : Text) (n : ℕ) (mods mods' names names' : List Text) (xs ys out : List Line) → Sofar w rest n mods names xs → 0 < length rest → length after < length rest → FirstLine rest l after → Extends mods mods' → Extends names names' → RowLines mods' names' (n + 1) l out → ys ≡ xs ++ out → Sofar w after (n + 1) mods' names' ys
-one_more_line w rest after l n mods mods' names names' xs ys out old some less first more yet row e =
+pub one_more_line : (w rest after l : Text) (n : ℕ) (mods mods' names names' : List Text) (xs ys out : List Line) → Sofar w rest n mods names xs → 0 < length rest → FirstLine rest l after → Extends mods mods' → Extends names names' → RowLines mods' names' (n + 1) l out → ys ≡ xs ++ out → Sofar w after (n + 1) mods' names' ys
+one_more_line w rest after l n mods mods' names names' xs ys out old some first more yet row e =
     let kept = rows_kept mods mods' names names' 1 old.ls xs more yet old.rows in
     record {
       begun = extends_on firsts names names' old.begun yet;
@@ -130,7 +104,6 @@ one_more_line w rest after l n mods mods' names names' xs ys out old some less f
       lines = lines_push w old.ls rest l after old.lines some first;
       rows = rw e (rows_push mods' names' 1 (n + 1) old.ls l xs out (omega (arith, old.count)) kept row);
       count = omega (arith, old.count, length_push old.ls l);
-      room = omega (arith, old.room);
     }
 
 -- what follows of each line that is read
@@ -167,21 +140,3 @@ all_read w rest n mods names xs old none =
       lines = subst (Lines w old.ls) (nil_from_length rest none) old.lines;
       rows = old.rows;
     }
-
-pub stops_at : (w rest after l : Text) (n : ℕ) (mods names : List Text) (xs : List Line) (was is : Requests) (f : Fault) → Sofar w rest n mods names xs → FirstLine rest l after → LineAdded was (n + 1) l is (Err f) → Read w (Err f)
-stops_at w rest after l n mods names xs was is (At k p s) old first (same, faulty) =
-    record {
-      ls = old.ls;
-      rest = rest;
-      lines = old.lines;
-      mods = mods;
-      names = names;
-      xs = xs;
-      rows = old.rows;
-      number = omega (arith, same, old.count);
-      l = l;
-      after = after;
-      next = first;
-      faulty = faulty;
-    }
-stops_at w rest after l n mods names xs was is NoMemory old first h = tt

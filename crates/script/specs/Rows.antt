@@ -1,17 +1,17 @@
 -- What a line holds. Assumes nothing.
-use Rattle.std.specs.Prelude.{[], ◌∷◌}
+use Rattle.std.specs.Prelude.{[], ◌∷◌, Some, None, Ok, Err, Option, Result}
+use Rattle.std.specs.Borrow.{Bor}
+use Rattle.script.specs.declared.faults.Problem.{Problem}
 use Rattle.script.specs.declared.faults.Problem.TheVariants.{NoRequest, TooManyWords, EmptyName, TooManyNames, TooManyModules, TooManyDistinctNames}
-use Rattle.script.specs.declared.words.Row.{Row}
-use Rattle.script.specs.declared.words.Row.TheVariants.{Empty, Asked, Wrong}
-use Rattle.script.specs.Texts.{Text}
-use Rattle.script.specs.Words.{Says, Third}
+use Rattle.words.specs.Texts.{Text}
+use Rattle.words.specs.Words.{Says, Third}
 
-abbrev pub Rowed : Text → Row → Type 0
-Rowed l Empty = Says l []
-Rowed l (Asked m w) = Says l (m.now ∷ w.now ∷ [])
-Rowed l (Wrong NoRequest m) = Says l (m.now ∷ [])
-Rowed l (Wrong TooManyWords x) = Third l x.now
-Rowed l (Wrong EmptyName x) = ⊥
-Rowed l (Wrong (TooManyNames n) x) = ⊥
-Rowed l (Wrong TooManyModules x) = ⊥
-Rowed l (Wrong TooManyDistinctNames x) = ⊥
+abbrev pub Rowed : Text → Result (Option (Bor Text × Bor Text)) (Problem × Bor Text) → Type 0
+Rowed l (Ok None) = Says l []
+Rowed l (Ok (Some (m, w))) = Says l (m.now ∷ w.now ∷ [])
+Rowed l (Err (NoRequest, m)) = Says l (m.now ∷ [])
+Rowed l (Err (TooManyWords, x)) = Third l x.now
+Rowed l (Err (EmptyName, x)) = ⊥
+Rowed l (Err (TooManyNames n, x)) = ⊥
+Rowed l (Err (TooManyModules, x)) = ⊥
+Rowed l (Err (TooManyDistinctNames, x)) = ⊥

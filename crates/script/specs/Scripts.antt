@@ -5,18 +5,20 @@ use Rattle.std.specs.List.{AllByRecursion}
 use Rattle.ids.specs.Paths.{names_of}
 use Rattle.joining.specs.declared.requests.Request.{Request}
 use Rattle.joining.specs.declared.requests.Request.TheVariants.{Path as Ask, Star, Full}
-use Rattle.script.specs.declared.faults.Fault.{Fault}
-use Rattle.script.specs.declared.faults.Fault.TheVariants.{Line as At, NoMemory}
 use Rattle.script.specs.declared.faults.Problem.{Problem}
 use Rattle.script.specs.declared.faults.Problem.TheVariants.{NoRequest, TooManyWords, EmptyName, TooManyNames, TooManyModules, TooManyDistinctNames}
-use Rattle.script.specs.declared.faults.Unread.TheVariants.{Of}
 use Rattle.script.specs.declared.requests.Line.{Line}
 use Rattle.script.specs.declared.requests.Requests.{Requests}
-use Rattle.script.specs.Faults.{Unspelled}
-use Rattle.script.specs.Interned.{texts, firsts, Numbered}
-use Rattle.script.specs.Spelled.{Asks, Extends, Known, bare}
-use Rattle.script.specs.Texts.{Text}
-use Rattle.script.specs.Words.{Says, Third}
+use Rattle.script.specs.Spelled.{Asks, bare}
+use Rattle.words.specs.declared.faults.Fault.{Fault}
+use Rattle.words.specs.declared.faults.Fault.TheVariants.{Line as At, NoMemory}
+use Rattle.words.specs.declared.spelling.PathFault.TheVariants.{EmptyName as Unnamed, TooManyNames as Long}
+use Rattle.words.specs.Interned.{texts, firsts, Numbered}
+use Rattle.words.specs.Lines.{Lines}
+use Rattle.words.specs.Paths.{Unspelled}
+use Rattle.words.specs.Spelled.{Extends, Known}
+use Rattle.words.specs.Texts.{Text}
+use Rattle.words.specs.Words.{Says, Third}
 
 -- the line x says that on line k the word w asks of the module m
 pub record Tells (mods names : List Text) (k : ℕ) (m w : Text) (x : Line) : Type 0 where
@@ -32,13 +34,13 @@ Grew before after = Extends (texts before.modules) (texts after.modules) × Exte
 abbrev pub Misasked : Text → Text → Problem → Text → Type 0
 Misasked m w NoRequest s = ⊥
 Misasked m w TooManyWords s = ⊥
-Misasked m w EmptyName s = (s ≡ w) × Unspelled (bare w) (Of EmptyName)
-Misasked m w (TooManyNames n) s = (s ≡ w) × Unspelled (bare w) (Of (TooManyNames n))
+Misasked m w EmptyName s = (s ≡ w) × Unspelled (bare w) Unnamed
+Misasked m w (TooManyNames n) s = (s ≡ w) × Unspelled (bare w) (Long n)
 Misasked m w TooManyModules s = s ≡ m
 Misasked m w TooManyDistinctNames s = s ≡ w
 
 -- what comes of the words m and w of line k
-abbrev pub Asked : Requests → ℕ → Text → Text → Requests → Result (Unit {0}) Fault → Type 0
+abbrev pub Asked : Requests → ℕ → Text → Text → Requests → Result (Unit {0}) (Fault Problem) → Type 0
 Asked before k m w after (Ok _) = Grew before after × ((x : Line) × Tells (texts after.modules) (texts after.names) k m w x × (vec_items after.lines ≡ vec_items before.lines ++ x ∷ []))
 Asked before k m w after (Err (At n p s)) = (n ≡ k) × Misasked m w p (string_bytes s)
 Asked before k m w after (Err NoMemory) = Unit {0}
@@ -59,7 +61,7 @@ Faulty l TooManyModules s = (m : Text) × (w : Text) × Says l (m ∷ w ∷ []) 
 Faulty l TooManyDistinctNames s = (m : Text) × (w : Text) × Says l (m ∷ w ∷ []) × Misasked m w TooManyDistinctNames s
 
 -- what comes of line k, which is l
-abbrev pub LineAdded : Requests → ℕ → Text → Requests → Result (Unit {0}) Fault → Type 0
+abbrev pub LineAdded : Requests → ℕ → Text → Requests → Result (Unit {0}) (Fault Problem) → Type 0
 LineAdded before k l after (Ok _) = Grew before after × ((out : List Line) × RowLines (texts after.modules) (texts after.names) k l out × (vec_items after.lines ≡ vec_items before.lines ++ out))
 LineAdded before k l after (Err (At n p s)) = (n ≡ k) × Faulty l p (string_bytes s)
 LineAdded before k l after (Err NoMemory) = Unit {0}
@@ -68,11 +70,6 @@ LineAdded before k l after (Err NoMemory) = Unit {0}
 abbrev pub Rows : List Text → List Text → ℕ → List Text → List Line → Type 0
 Rows mods names k [] xs = xs ≡ []
 Rows mods names k (l ∷ ls) xs = (out : List Line) × (rest : List Line) × (xs ≡ out ++ rest) × RowLines mods names k l out × Rows mods names (k + 1) ls rest
-
--- the text w is the lines ls, and then rest
-abbrev pub Lines : Text → List Text → Text → Type 0
-Lines w [] rest = w ≡ rest
-Lines w (l ∷ ls) rest = (after : Text) × (0 < length w) × FirstLine w l after × Lines after ls rest
 
 -- the names of a request are in the table
 abbrev pub Knows : List Text → Request → Type 0
@@ -112,13 +109,13 @@ pub record Stopped (w : Text) (k : ℕ) (p : Problem) (s : Text) : Type 0 where
   pub faulty : Faulty l p s
 
 -- what comes of the text w
-abbrev pub Read : Text → Result Requests Fault → Type 0
+abbrev pub Read : Text → Result Requests (Fault Problem) → Type 0
 Read w (Ok r) = Script (texts r.modules) (texts r.names) w (vec_items r.lines)
 Read w (Err (At n p s)) = Stopped w n p (string_bytes s)
 Read w (Err NoMemory) = Unit {0}
 
 -- the start: nothing but the first names
-abbrev pub Begun : Result Requests Fault → Type 0
+abbrev pub Begun : Result Requests (Fault Problem) → Type 0
 Begun (Ok r) = (texts r.names ≡ firsts) × (vec_items r.lines ≡ [])
 Begun (Err (At n p s)) = ⊥
 Begun (Err NoMemory) = Unit {0}

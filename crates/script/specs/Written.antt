@@ -3,8 +3,8 @@ use Rattle.std.specs.Prelude.{Bool, cond, ◌||◌, List, ◌∷◌, codes}
 use Rattle.std.specs.Str.{bytes_eq}
 use Rattle.joining.specs.declared.requests.Request.{Request}
 use Rattle.joining.specs.declared.requests.Request.TheVariants.{Path as Ask, Star, Full}
-use Rattle.script.specs.Spelled.{dot, spelled}
-use Rattle.script.specs.Texts.{Text}
+use Rattle.words.specs.Spelled.{dot, spelled}
+use Rattle.words.specs.Texts.{Text}
 
 -- a word that does not ask for one path
 abbrev pub special : Text → Bool

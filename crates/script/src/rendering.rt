@@ -1,26 +1,24 @@
 // Requests become text again.
 ghost use Rattle.std.specs.Prelude.{◌≡◌, IfOk, string_bytes};
-ghost use Rattle.script.specs.Interned.{texts};
-ghost use Rattle.script.specs.Spelled.{spelled};
-ghost use Rattle.script.specs.Texts.{text_at};
+ghost use Rattle.words.specs.Interned.{texts};
+ghost use Rattle.words.specs.Spelled.{spelled};
+ghost use Rattle.words.specs.Texts.{text_at};
 ghost use Rattle.script.specs.Written.{written};
 
-use crate::interner_struct::Names;
 use ids::{NameId, Path};
 use joining::Request;
 use std::alloc::{AllocError, Global};
+use words::Names;
 
 // The text of a name, or nothing where the table lacks it.
 fn name_text(names: &Names, name: NameId) -> &str
     ensures { result.now ≡ text_at (texts names.now) name.0 }
 {
-    match names.text(name.0) {
-        Some(text) => text,
-        None => "",
-    }
+    names.text_or_empty(name.0)
 }
 
-// The names of a path, with a dot between two. A name that the table lacks is left empty.
+// The names of a path, with a dot between two. A name that the table lacks is left empty. A `for` puts a dot before each
+// further name: std has no `join` of texts that are made one by one.
 pub fn path_text(heap: Global, names: &Names, path: &Path) -> Result<String, AllocError>
     ensures { IfOk result (λ s. string_bytes s ≡ spelled (texts names.now) path.now) }
 {

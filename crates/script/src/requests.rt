@@ -1,7 +1,7 @@
 // What is read of a text.
-use crate::interner_struct::Names;
 use ids::ModuleId;
 use joining::Request;
+use words::Names;
 
 // A request, with the number of its line: the first line is line 1.
 #[derive(Clone, Copy)]

@@ -5,6 +5,7 @@
 mod tests {
     use script::{Fault, Line, Names, Problem, read, request_text};
     use std::alloc::Global;
+    use std::fmt::Write;
     use std::test::Fail;
 
     // Lines, each as its number, its module and its word.
@@ -14,7 +15,7 @@ mod tests {
             let number = line.number;
             let module = line.module.0;
             let request = request_text(heap, names, &line.request)?;
-            all.push_str(format!(in heap; "{number} {module} {request};")?.as_str())?;
+            write!(all, "{number} {module} {request};")?;
         }
         Ok(all)
     }
@@ -24,26 +25,21 @@ mod tests {
         listed(heap, &requests.names, requests.lines.as_slice())
     }
 
-    // The line and the problem of a text that is not read.
+    // The line and the problem of a text that is not read. The tests of the text of records have such a pair of functions
+    // too: a crate of tests alone has none that another crate could call.
     fn problem(heap: Global, text: &str) -> Result<(usize, Problem), Fail> {
-        match read(heap, text) {
-            Ok(_) => Err(Fail::new("no fault")),
-            Err(
-                Fault::Line {
-                    number,
-                    problem,
-                    word: _,
-                },
-            ) => Ok((number, problem)),
-            Err(Fault::NoMemory) => Err(Fail::new("no memory")),
+        match read(heap, text).err().ok_or("no fault")? {
+            Fault::Line {
+                number,
+                problem,
+                ..
+            } => Ok((number, problem)),
+            Fault::NoMemory => Err(Fail::new("no memory")),
         }
     }
 
     fn message(heap: Global, text: &str) -> Result<String, Fail> {
-        match read(heap, text) {
-            Ok(_) => Err(Fail::new("no fault")),
-            Err(fault) => Ok(fault.to_string(heap)?),
-        }
+        Ok(read(heap, text).err().ok_or("no fault")?.to_string(heap)?)
     }
 
     #[test]
@@ -116,7 +112,7 @@ mod tests {
         let heap = rt.alloc();
         let mut text = String::new(heap);
         for module in 0..1024u32 {
-            text.push_str(format!(in heap; "m{module} full\n")?.as_str())?;
+            write!(text, "m{module} full\n")?;
         }
         let requests = read(heap, text.as_str())?;
         assert_eq!(rt; requests.modules.len(), 1024);

@@ -1,15 +1,17 @@
 -- Lemmas on names that get numbers in a table that grows.
-use Rattle.std.proofs.Common.{◌≡◌, ℕ, ◌+◌, ◌<◌, ◌≤◌, List, [], ◌∷◌, ◌++◌, map, length, get_or, take, Err, sym, refl, ap, ◌∙◌, subst, arith, Bor}
+use Rattle.std.proofs.Common.{◌≡◌, ℕ, ◌+◌, ◌<◌, ◌≤◌, List, [], ◌∷◌, ◌++◌, map, length, get_or, take, Ok, Err, Result, sym, refl, ap, ◌∙◌, subst, arith, Bor}
 use Rattle.std.specs.List.{ContainsAt as Has, AllByRecursion}
+use Rattle.std.specs.Result.{MatchResult, IsErrAnd}
 use Rattle.std.proofs.ByRecursion.{All-push, All-weaker, has_get_or}
 use Rattle.std.proofs.lemmas.List.{append_assoc, length-append, length-map, get_or_append_left, get_or-map, map_push, map_more}
 use Rattle.ids.specs.declared.numbers.NameId.{NameId}
 use Rattle.ids.specs.declared.paths.PathError.{PathError}
 use Rattle.ids.specs.declared.paths.PathError.TheVariants.{Empty, TooLong}
+use Rattle.ids.specs.declared.path_struct.Path.{Path}
 use Rattle.ids.specs.Paths.{Makes}
 use Rattle.words.specs.declared.spelling.PathFault.{PathFault}
 use Rattle.words.specs.declared.spelling.PathFault.TheVariants.{EmptyName, TooManyNames, TooManyDistinctNames, NoMemory}
-use Rattle.words.specs.Paths.{Named, Unnumbered, Unspelled}
+use Rattle.words.specs.Paths.{Unnumbered, Unspelled, PathRead}
 use Rattle.words.specs.Interned.{Numbered}
 use Rattle.words.specs.Texts.{Text, text_at}
 use Rattle.words.specs.Spelled.{dot, Pieces, texts_of, Known, Extends, Numbers, Spells}
@@ -57,13 +59,6 @@ numbers_more before ps after next ns t n old (some, new, ext) =
       grown = extends_on before after next old.grown ext;
     }
 
--- a name that gets no number is among those that should
-pub unnumbered : (before ps after : List Text) (t : Text) (u : PathFault) → Has ps t → Named before t after (Err u) → Unnumbered ps u
-unnumbered before ps after t EmptyName has h = subst (Has ps) h has
-unnumbered before ps after t (TooManyNames n) has h = h
-unnumbered before ps after t TooManyDistinctNames has h = tt
-unnumbered before ps after t NoMemory has h = tt
-
 -- a turn of the loop over the pieces
 pub numbers_turn : (before after next : List Text) (ps : List (Bor Text)) (i : ℕ) (d : Bor Text) (ns ms : List NameId) (n : NameId) → i < length ps → Numbers before (map (λ x. x.now) (take i ps)) after ns → (0 < length (get_or ps i d).now) × Numbered next (get_or ps i d).now n.0 × Extends after next → ms ≡ ns ++ n ∷ [] → Numbers before (map (λ x. x.now) (take (i + 1) ps)) next ms
 numbers_turn before after next ps i d ns ms n h old new e =
@@ -87,6 +82,12 @@ spells before ps after w ns cut old =
       pieces = subst (Pieces dot w) (sym old.same) cut;
       solid = subst (AllByRecursion (λ t. 0 < length t)) (sym old.same) old.solid;
     }
+
+-- the path that some names make, or why they make none; R says what the closure gives of the error
+pub path_made : (before ps after : List Text) (w : Text) (ns : List NameId) (r : Result Path PathError) (s : Result Path PathFault) (R : PathError → PathFault → Type 0) → ((e : PathError) (f : PathFault) → R e f → f ≡ TooManyNames (length ns)) → Pieces dot w ps → Numbers before ps after ns → Makes ns r → MatchResult r (λ p. s ≡ Ok p) (λ e. IsErrAnd s (R e)) → PathRead before w after s
+path_made before ps after w ns (Ok p) s R gives cut old made same = rw same (subst (λ (ms : List NameId). Spells after w ms) (sym made) (spells before ps after w ns cut old), old.grown)
+path_made before ps after w ns (Err e) (Ok p) R gives cut old made same = absurd same
+path_made before ps after w ns (Err e) (Err f) R gives cut old made same = rw (gives e f same) (too_many before ps after w ns (length ns) e cut old made refl)
 
 -- pieces that are not all names spell none
 pub unspelled : (ps : List Text) (w : Text) (u : PathFault) → Pieces dot w ps → Unnumbered ps u → Unspelled w u

@@ -1,3 +1,4 @@
+pub mod Faults
 pub mod Interned
 pub mod Lines
 pub mod Paths

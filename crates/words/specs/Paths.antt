@@ -8,8 +8,15 @@ use Rattle.ids.specs.Paths.{names_of}
 use Rattle.words.specs.Texts.{Text}
 use Rattle.words.specs.Interned.{Numbered}
 use Rattle.words.specs.Spelled.{dot, Pieces, Spells, Numbers, Extends}
+use Rattle.words.specs.declared.interner.InternError.{InternError}
+use Rattle.words.specs.declared.interner.InternError.TheVariants.{Full, NoMemory as NoRoom}
 use Rattle.words.specs.declared.spelling.PathFault.{PathFault}
 use Rattle.words.specs.declared.spelling.PathFault.TheVariants.{EmptyName, TooManyNames, TooManyDistinctNames, NoMemory}
+
+-- why a table gives a name no number, as a fault of its path
+abbrev pub crowded : InternError → PathFault
+crowded Full = TooManyDistinctNames
+crowded NoRoom = NoMemory
 
 -- what comes of a name that is read: it is not empty, and gets its number; or it is not read
 abbrev pub Named : List Text → Text → List Text → Result NameId PathFault → Type 0

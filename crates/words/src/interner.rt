@@ -2,11 +2,13 @@
 ghost use Rattle.std.specs.Prelude.{◌≡◌, [], length};
 ghost use Rattle.words.specs.declared.interner.InternError.TheVariants.{NoMemory};
 ghost use Rattle.words.specs.Interned.{texts, Found, Told, Interned, Started};
+ghost use Rattle.words.specs.Texts.{text_at};
 
 use crate::interner_struct::Names;
 use std::alloc::{AllocError, AllocFailed, Global};
 
-// Why a text gets no number.
+// Why a text gets no number. An enum of its own: `InternError::Full` says what happened, and as `Unread<..>` it would be
+// `Unread::Of(Full)`.
 #[derive(Clone, Copy, PartialEq, Eq, Debug)]
 pub enum InternError {
     // the table has its most texts
@@ -59,27 +61,29 @@ impl Names {
         self.items.len() as u32
     }
 
-    // The number of a text that is there.
+    // The number of a text that is there. The search goes through the row: the contract and its proof speak of one list,
+    // and a map beside it would have to be tied to that list by an invariant.
     pub fn find(&self, text: &str) -> Option<u32>
         ensures { Found (texts self.now) text.now result }
     {
-        let items = self.items.as_slice();
-        for (number, item) in items.iter().enumerate() {
-            if item.as_str() == text {
-                return Some(number as u32);
-            }
-        }
-        None
+        self.items
+            .iter()
+            .position(|item| item.as_str() == text)
+            .map(|number| number as u32)
     }
 
     // The text of a number.
     pub fn text(&self, number: u32) -> Option<&str>
         ensures { Told (texts self.now) number result }
     {
-        if number >= self.len() {
-            return None;
-        }
-        Some(self.items[number as usize].as_str())
+        self.items.get(number as usize).map(|item| item.as_str())
+    }
+
+    // The text of a number, and the empty text where the table lacks it.
+    pub fn text_or_empty(&self, number: u32) -> &str
+        ensures { result.now ≡ text_at (texts self.now) number }
+    {
+        self.text(number).unwrap_or("")
     }
 
     // The number of a text, which is put last if it is not there.
@@ -96,5 +100,20 @@ impl Names {
         let item = String::from_str(*self.items.allocator(), text)?;
         self.items.push(item)?;
         Ok(number)
+    }
+}
+
+#[cfg(test)]
+mod tests {
+    use super::*;
+    use std::test::Fail;
+
+    #[test]
+    fn lacking_numbers_have_no_text(rt: HostRuntime) -> Result<(), Fail> {
+        let mut names = Names::new(rt.alloc(), 2);
+        assert_eq!(rt; names.intern("a")?, 0);
+        assert_eq!(rt; names.text_or_empty(0), "a");
+        assert_eq!(rt; names.text_or_empty(1), "");
+        Ok(())
     }
 }

@@ -1,16 +1,17 @@
 // Words become paths of names.
-ghost use Rattle.std.specs.Prelude.{◌≡◌, map, IfOk};
+ghost use Rattle.std.specs.Prelude.{◌≡◌, ◌<◌, map, IfOk};
 ghost use Rattle.words.specs.declared.spelling.PathFault.TheVariants.{NoMemory};
-ghost use Rattle.words.specs.Paths.{Named, AllNamed, PathRead};
+ghost use Rattle.words.specs.Paths.{Named, AllNamed, PathRead, crowded};
 ghost use Rattle.words.specs.Interned.{texts};
-ghost use Rattle.words.specs.Spelled.{dot, comma, Pieces};
+ghost use Rattle.words.specs.Spelled.{comma, Pieces};
 
 use crate::interner::InternError;
 use crate::interner_struct::Names;
 use ids::{NameId, Path};
 use std::alloc::{AllocError, AllocFailed, Global};
 
-// Why a word spells no path.
+// Why a word spells no path. An enum of its own: `PathFault::EmptyName` says what happened, and as `Unread<..>` it would be
+// `Unread::Of(EmptyName)`.
 #[derive(Clone, Copy, PartialEq, Eq, Debug)]
 pub enum PathFault {
     // a dot has no name on one of its sides
@@ -38,18 +39,30 @@ impl<T: Drop> From<AllocFailed<T>> for PathFault {
     }
 }
 
-// The pieces of a word, which dots part.
-fn pieces<'a>(heap: Global, word: &'a str) -> Result<Vec<&'a str>, AllocError>
-    ensures { IfOk result (λ v. Pieces dot word.now (map (λ x. x.now) v.items)) }
+impl From<InternError> for PathFault {
+    ghost from_gives = { λ e f. f ≡ crowded e };
+
+    fn from(error: InternError) -> PathFault {
+        match error {
+            InternError::Full => PathFault::TooManyDistinctNames,
+            InternError::NoMemory => PathFault::NoMemory,
+        }
+    }
+}
+
+// The pieces of a word, which an ASCII mark parts.
+fn pieces<'a>(heap: Global, word: &'a str, mark: char) -> Result<Vec<&'a str>, AllocError>
+    requires { mark < 128 }
+    ensures { IfOk result (λ v. Pieces mark word.now (map (λ x. x.now) v.items)) }
 {
-    word.split('.').collect(heap)
+    word.split(mark).collect(heap)
 }
 
 // The pieces of a word, which commas part.
 pub fn comma_pieces<'a>(heap: Global, word: &'a str) -> Result<Vec<&'a str>, AllocError>
     ensures { IfOk result (λ v. Pieces comma word.now (map (λ x. x.now) v.items)) }
 {
-    word.split(',').collect(heap)
+    pieces(heap, word, ',')
 }
 
 // The number of a name of a declaration.
@@ -59,11 +72,8 @@ fn name_number(names: &mut Names, text: &str) -> Result<NameId, PathFault>
     if text.is_empty() {
         return Err(PathFault::EmptyName);
     }
-    match names.intern(text) {
-        Ok(number) => Ok(NameId(number)),
-        Err(InternError::Full) => Err(PathFault::TooManyDistinctNames),
-        Err(InternError::NoMemory) => Err(PathFault::NoMemory),
-    }
+    let number = names.intern(text)?;
+    Ok(NameId(number))
 }
 
 // The numbers of names.
@@ -81,10 +91,7 @@ fn numbers(heap: Global, names: &mut Names, pieces: &[&str]) -> Result<Vec<NameI
 pub fn read_path(heap: Global, names: &mut Names, word: &str) -> Result<Path, PathFault>
     ensures { PathRead (texts names.old) word.now (texts names.new) result }
 {
-    let pieces = pieces(heap, word)?;
+    let pieces = pieces(heap, word, '.')?;
     let ids = numbers(heap, names, pieces.as_slice())?;
-    match Path::from_names(ids.as_slice()) {
-        Ok(path) => Ok(path),
-        Err(_) => Err(PathFault::TooManyNames(ids.len())),
-    }
+    Path::from_names(ids.as_slice()).map_err(|_| PathFault::TooManyNames(ids.len()))
 }

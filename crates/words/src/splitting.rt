@@ -1,7 +1,7 @@
 // Lines become words.
 ghost use Rattle.std.specs.Prelude.{◌≡◌, ℕ, ◌<◌, ◌≤◌, true, false, map, length, IfOk, MatchOption, slice_index};
 ghost use Rattle.std.specs.Char.{is_ascii_whitespace};
-ghost use Rattle.words.specs.Words.{Blank, First, Content, Words, Says};
+ghost use Rattle.words.specs.Words.{Blank, First, Content, Says};
 
 use std::alloc::{AllocError, Global};
 
@@ -11,12 +11,10 @@ fn solid_len(bytes: &[u8]) -> usize
     ensures before { (k : ℕ) → k < result → is_ascii_whitespace (slice_index bytes.now k) ≡ false }
     ensures stops { result < length bytes.now → is_ascii_whitespace (slice_index bytes.now result) ≡ true }
 {
-    for (place, byte) in bytes.iter().enumerate() {
-        if byte.is_ascii_whitespace() {
-            return place;
-        }
-    }
-    bytes.len()
+    bytes
+        .iter()
+        .position(|byte| byte.is_ascii_whitespace())
+        .unwrap_or(bytes.len())
 }
 
 // The first word of a text, and what follows it.
@@ -34,28 +32,13 @@ pub fn first_word(text: &str) -> Option<(&str, &str)>
 pub fn content(line: &str) -> &str
     ensures { Content line.now result.now }
 {
-    match line.split_once('#') {
-        Some((front, _)) => front,
-        None => line,
-    }
-}
-
-// The words of a text, first to last.
-fn all_words<'a>(heap: Global, text: &'a str) -> Result<Vec<&'a str>, AllocError>
-    ensures { IfOk result (λ v. Words text.now (map (λ x. x.now) v.items)) }
-{
-    let mut words = Vec::new(heap);
-    let mut rest = text;
-    while let Some((word, after)) = first_word(rest) {
-        words.push(word)?;
-        rest = after;
-    }
-    Ok(words)
+    line.split_once('#').map_or(line, |(front, _)| front)
 }
 
 // The words of a line, first to last, up to its comment.
 pub fn words<'a>(heap: Global, line: &'a str) -> Result<Vec<&'a str>, AllocError>
     ensures { IfOk result (λ v. Says line.now (map (λ x. x.now) v.items)) }
 {
-    all_words(heap, content(line))
+    let said = content(line);
+    said.split_ascii_whitespace().collect(heap)
 }

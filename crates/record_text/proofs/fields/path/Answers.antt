@@ -1,5 +1,6 @@
-use Rattle.record_text.proofs.Refusing.{path_refused}
+use Rattle.std.proofs.Common.{rules}
+use Rattle.record_text.proofs.Refusing.{path_read}
 use Rattle.record_text.proofs.fields.path.Goals as goal
 
-pub returns-in-Err : goal.returns-in-Err
-returns-in-Err c = path_refused c.args.word.now c.in-Err.fault c.args.place c.path_unread.result c.path_unread.ensures c.in-Err.ensures
+pub returns : goal.returns
+returns c = path_read _ c.args.word.now _ c.args.place c.read_path.result _ c.read_path.ensures c.map_err.ensures.cases (λ f u h. search rules)

@@ -1,5 +1,4 @@
 use Rattle.std.proofs.Common.{[], refl, Bor}
-use Rattle.std.proofs.lemmas.List.{take_all}
 use Rattle.words.specs.Texts.{Text}
 use Rattle.record_text.proofs.Refusing.{not_raised}
 use Rattle.record_text.proofs.Raising.{raises_turn}
@@ -14,6 +13,3 @@ loop-word-preserved c = raises_turn c.args.words.now c.loop-word.word-index blan
 
 pub returns-in_default : goal.returns-in_default
 returns-in_default c = (refl, not_raised c.args.words.now c.loop-word.word-index blank c.loop-word-test.true c.in_default.ensures)
-
-pub returns : goal.returns
-returns c = rw (take_all c.loop-word.word-index c.args.words.now c.loop-word-test.false) at c.loop-word.invariant

@@ -1,16 +1,12 @@
 use Rattle.record_text.proofs.Growing.{head_kept, name_kept}
-use Rattle.record_text.proofs.Refusing.{blame_range}
-use Rattle.record_text.proofs.Shapes.{at_form}
+use Rattle.record_text.proofs.Refusing.{misranged}
 use Rattle.record_text.proofs.forms.file_ref.Goals as goal
 use Rattle.record_text.specs.Forms.{shelf}
-use Rattle.std.proofs.lemmas.Result.{err_from_is_err_and}
 use Rattle.words.proofs.Numbering.{extends_on}
 use Rattle.std.proofs.Common.{[], ◌∷◌, codes, refl, arith}
 
 pub returns-in_err-head : goal.returns-in_err-head
-returns-in_err-head c =
-    let p = err_from_is_err_and c.from_residual.result c.from_residual.ensures.1 in
-    rw (p.1, p.2) (blame_range (shelf c.args.texts.now) (codes "file-ref" ∷ c.args.start.now ∷ c.args.end.now ∷ c.args.own.now ∷ c.args.specifier.now ∷ c.args.what.now ∷ []) c.args.start.now c.args.end.now c.in_err-head.field-0.0 (omega arith) (λ nay names i said. let h = at_form _ i (codes "file-ref" ∷ c.args.start.now ∷ c.args.end.now ∷ c.args.own.now ∷ c.args.specifier.now ∷ c.args.what.now ∷ []) said in nay h.0.range h.2.range) c.in_err-head.ensures)
+returns-in_err-head c = misranged c.args.texts.now c.head.new.texts (codes "file-ref" ∷ c.args.start.now ∷ c.args.end.now ∷ c.args.own.now ∷ c.args.specifier.now ∷ c.args.what.now ∷ []) c.args.start.now c.args.end.now c.in_err-head.field-0.0 _ c.from_residual.ensures.1 (omega arith) (λ nay names h. nay h.0.range h.2.range) c.in_err-head.ensures
 
 pub returns : goal.returns
 returns c =

@@ -1,16 +1,11 @@
 use Rattle.record_text.proofs.Growing.{name_kept}
-use Rattle.record_text.proofs.Refusing.{blame, not_path_or_none}
-use Rattle.record_text.proofs.Shapes.{at_form}
+use Rattle.record_text.proofs.Refusing.{misformed, not_path_or_none}
 use Rattle.record_text.proofs.forms.import_type.Goals as goal
-use Rattle.record_text.specs.Forms.{shelf}
-use Rattle.std.proofs.lemmas.Result.{err_from_is_err_and}
 use Rattle.words.proofs.Numbering.{extends_on}
 use Rattle.std.proofs.Common.{[], ◌∷◌, codes, refl, arith}
 
 pub returns-in_err-path : goal.returns-in_err-path
-returns-in_err-path c =
-    let p = err_from_is_err_and c.from_residual-in_err-path.result c.from_residual-in_err-path.ensures.1 in
-    rw (p.1, p.2) (blame (shelf c.args.texts.now) (codes "import-type" ∷ c.args.specifier.now ∷ c.args.below.now ∷ []) _ 2 c.in_err-path.field-0.0 (omega arith) (λ nay names i said. let h = at_form _ i (codes "import-type" ∷ c.args.specifier.now ∷ c.args.below.now ∷ []) said in not_path_or_none names _ nay h.0 h.2) c.in_err-path.ensures)
+returns-in_err-path c = misformed c.args.texts.now (record { names = c.path_or_none.new.names; modules = c.args.texts.now.modules; packages = c.args.texts.now.packages }) (codes "import-type" ∷ c.args.specifier.now ∷ c.args.below.now ∷ []) _ 2 c.in_err-path.field-0.0 _ c.from_residual-in_err-path.ensures.1 (omega arith) (λ nay names h. not_path_or_none names _ nay h.0 h.2) c.in_err-path.ensures
 
 pub returns : goal.returns
 returns c =

@@ -6,7 +6,7 @@ use Rattle.record_text.proofs.Shapes.{no_keyword}
 use Rattle.record_text.proofs.parsing.parse_four.Goals as goal
 
 pub returns-in-module : goal.returns-in-module
-returns-in-module c = keyed c.args.texts.now c.module_line.new.texts _ _ _ c.module_line.result c.in-module.is c.module_line.ensures
+returns-in-module c = keyed c.args.texts.now c.args.texts.now _ _ _ c.module_line.result c.in-module.is c.module_line.ensures
 
 pub returns-in-alias : goal.returns-in-alias
 returns-in-alias c = keyed c.args.texts.now c.alias.new.texts _ _ _ c.alias.result c.in-alias.is c.alias.ensures

@@ -6,7 +6,7 @@ use Rattle.record_text.proofs.Shapes.{no_keyword}
 use Rattle.record_text.proofs.parsing.parse_two.Goals as goal
 
 pub returns-in-package : goal.returns-in-package
-returns-in-package c = keyed c.args.texts.now c.package_exports.new.texts _ _ _ c.package_exports.result c.in-package.is c.package_exports.ensures
+returns-in-package c = keyed c.args.texts.now c.args.texts.now _ _ _ c.package_exports.result c.in-package.is c.package_exports.ensures
 
 pub returns-in-dependency : goal.returns-in-dependency
 returns-in-dependency c = keyed c.args.texts.now c.dependency.new.texts _ _ _ c.dependency.result c.in-dependency.is c.dependency.ensures
@@ -15,7 +15,7 @@ pub returns-in-export : goal.returns-in-export
 returns-in-export c = keyed c.args.texts.now c.export.new.texts _ _ _ c.export.result c.in-export.is c.export.ensures
 
 pub returns-in-id : goal.returns-in-id
-returns-in-id c = keyed c.args.texts.now c.id.new.texts _ _ _ c.id.result c.in-id.is c.id.ensures
+returns-in-id c = keyed c.args.texts.now c.args.texts.now _ _ _ c.id.result c.in-id.is (c.id.ensures c.args.texts.now)
 
 pub returns-in-text : goal.returns-in-text
 returns-in-text c = keyed c.args.texts.now c.qualified_id.new.texts _ _ _ c.qualified_id.result c.in-text.is c.qualified_id.ensures

@@ -1,11 +1,11 @@
-use Rattle.std.proofs.Common.{Some, ap, ◌∙◌}
-use Rattle.table_rules.specs.Meaning.{decl_of, symbol_of}
-use Rattle.record_text.specs.Placing.{in_symbol, with_decls}
-use Rattle.record_text.proofs.Lasts.{pushed_of}
+use Rattle.std.proofs.Common.{rules}
+use Rattle.table_rules.specs.Meaning.{decl_of}
+use Rattle.record_text.specs.Placing.{referring}
+use Rattle.record_text.proofs.Lasts.{adds_on_last}
 use Rattle.record_text.proofs.placing.add_to_symbol.Goals as goal
 
-pub returns-in_ok-push-in-Declares : goal.returns-in_ok-push-in-Declares
-returns-in_ok-push-in-Declares c =
-    let symbol = symbol_of c.args.symbol.now in
-    ap (λ p. in_symbol p symbol) c.in-Declares.is
-    ∙ ap (λ ds. Some (with_decls symbol ds)) (pushed_of decl_of _ _ c.begun.result _ c.in_ok-push-in-Declares.ensures.items c.begun.ensures)
+pub returns-in_err-on_last-in-Refers : goal.returns-in_err-on_last-in-Refers
+returns-in_err-on_last-in-Refers c = let h = adds_on_last decl_of (referring c.in-Refers.reference) _ _ _ _ c.in_err-on_last-in-Refers.ensures (λ x r y k. rw (← k.shows, ← k.leaves) (search rules)) in search rules
+
+pub returns-in_ok-on_last-in-Refers : goal.returns-in_ok-on_last-in-Refers
+returns-in_ok-on_last-in-Refers c = let h = adds_on_last decl_of (referring c.in-Refers.reference) _ _ _ _ c.in_ok-on_last-in-Refers.ensures (λ x r y k. rw (← k.shows, ← k.leaves) (search rules)) in search rules

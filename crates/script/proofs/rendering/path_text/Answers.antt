@@ -3,8 +3,8 @@ use lib.Utf8.{encode}
 use Rattle.std.specs.List.{join_with_byte}
 use Rattle.std.proofs.lemmas.List.{take_all, take_rest}
 use Rattle.ids.specs.Names.{default_name}
-use Rattle.script.specs.Interned.{texts}
-use Rattle.script.specs.Spelled.{dot, texts_of}
+use Rattle.words.specs.Interned.{texts}
+use Rattle.words.specs.Spelled.{dot, texts_of}
 use Rattle.script.proofs.Spelt.{after_dots, after_dots_more, spelled_whole}
 use Rattle.script.proofs.rendering.path_text.Goals as goal
 

@@ -1,5 +1,5 @@
 use Rattle.std.proofs.Common.{◌≡◌, ◌++◌, take, string_bytes}
-use Rattle.script.specs.Interned.{texts}
+use Rattle.words.specs.Interned.{texts}
 use Rattle.script.proofs.Spelt.{after_dots}
 use Rattle.script.proofs.rendering.path_text.Given as goal
 

@@ -1,10 +1,10 @@
-use Rattle.std.proofs.Common.{List, map, Err, vec_items, sym, ◌∙◌, subst, Bor}
+use Rattle.std.proofs.Common.{rules, List, map, vec_items, sym, subst, Bor}
 use Rattle.std.proofs.lemmas.Result.{err_from_is_err_and}
 use Rattle.ids.specs.declared.numbers.NameId.{NameId}
 use Rattle.ids.specs.Paths.{Makes}
 use Rattle.words.specs.Spelled.{dot, Pieces}
 use Rattle.words.specs.Texts.{Text}
-use Rattle.words.proofs.Numbering.{too_many, unspelled}
+use Rattle.words.proofs.Numbering.{path_made, unspelled}
 use Rattle.words.proofs.spelling.read_path.Goals as goal
 use Rattle.words.proofs.spelling.read_path.Goals.{After-as_slice}
 
@@ -20,6 +20,6 @@ returns-in_err-ids c =
 pub returns : goal.returns
 returns c =
     let ids = c.in_ok-ids.ids in
-    too_many _ _ _ _ (vec_items ids) c.len.result c.in-Err.field-0 (cut (goal.at.returns c).After-as_slice) c.in_ok-ids.ensures
-    (subst (λ (ns : List NameId). Makes ns (Err c.in-Err.field-0)) c.as_slice-2.ensures.value c.in-Err.ensures)
-    (c.len.ensures ∙ ids.ok.0)
+    path_made _ _ _ _ (vec_items ids) c.from_names.result c.map_err.result _ (λ e f q. search rules) (cut (goal.at.returns c).After-as_slice) c.in_ok-ids.ensures
+    (subst (λ (ns : List NameId). Makes ns c.from_names.result) c.as_slice-2.ensures.value c.from_names.ensures)
+    c.map_err.ensures.cases

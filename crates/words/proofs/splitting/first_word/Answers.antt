@@ -1,7 +1,7 @@
-use Rattle.std.proofs.Common.{◌≡◌, ℕ, ◌<◌, ◌≤◌, true, false, length, get_or, subst, true-eqb, false-eqb}
+use Rattle.std.proofs.Common.{◌≡◌, ℕ, ◌<◌, ◌≤◌, true, false, length, get_or, subst, false-eqb}
 use Rattle.std.specs.Char.{is_ascii_whitespace}
 use Rattle.words.specs.Texts.{Text}
-use Rattle.words.proofs.Worded.{all_blank, first_word, word_boundary}
+use Rattle.words.proofs.Worded.{first_word}
 use Rattle.words.proofs.splitting.first_word.Goals as goal
 use Rattle.words.proofs.splitting.first_word.Goals.{After-solid_len}
 
@@ -16,12 +16,6 @@ found : (c : After-solid_len) → Run c.solid_len.result c.trim_ascii_start-soli
 found c =
     let told = c.solid_len.ensures in
     subst (Run c.solid_len.result) c.as_bytes.ensures.value (record { within = told.within; before = told.before; stops = told.stops })
-
-pub split_at-requires : goal.split_at-requires
-split_at-requires c = let run = found (goal.at.split_at-requires c).After-solid_len in word_boundary c.trim_ascii_start-solid.result.now c.solid_len.result run.within run.stops
-
-pub returns-then-is_empty : goal.returns-then-is_empty
-returns-then-is_empty c = all_blank _ c.trim_ascii_start-solid.result.now c.trim_ascii_start-solid.ensures.value (true-eqb _ 0 c.if-is_empty.ensures)
 
 pub returns : goal.returns
 returns c =

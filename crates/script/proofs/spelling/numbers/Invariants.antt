@@ -1,7 +1,0 @@
-use Rattle.std.proofs.Common.{map, take, vec_items}
-use Rattle.script.specs.Interned.{texts}
-use Rattle.script.specs.Spelled.{Numbers}
-use Rattle.script.proofs.spelling.numbers.Given as goal
-
-abbrev pub invariant-loop-piece : goal.invariant-loop-piece
-invariant-loop-piece l = Numbers (texts l.initial.names) (map (λ x. x.now) (take l.piece-index l.pieces)) (texts l.names) (vec_items l.ids)
