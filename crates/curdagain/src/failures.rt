@@ -46,6 +46,18 @@ impl From<record_text::Fault> for Failure {
     }
 }
 
+impl From<tables::Refusal> for Failure {
+    fn from(refusal: tables::Refusal) -> Failure {
+        Failure::BrokenRecords(refusal)
+    }
+}
+
+impl From<offering::Refusal> for Failure {
+    fn from(refusal: offering::Refusal) -> Failure {
+        Failure::NoMarks(refusal)
+    }
+}
+
 impl<T: Drop> From<AllocFailed<T>> for Failure {
     fn from(_refused: AllocFailed<T>) -> Failure {
         Failure::NoMemory

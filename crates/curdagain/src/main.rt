@@ -51,14 +51,8 @@ fn chosen_task(rt: &HostRuntime, heap: Global) -> Result<Task, Failure> {
     match word.as_str() {
         "--help" | "-h" => Ok(Task::Help),
         "offers" => {
-            let Some(module) = args.next() else {
-                return Err(Failure::NoModule);
-            };
-            let mut names = Vec::new(heap);
-            for name in args {
-                names.push(name)?;
-            }
-            Ok(Task::Offers(module, names))
+            let module = args.next().ok_or(Failure::NoModule)?;
+            Ok(Task::Offers(module, args.collect(heap)?))
         }
         _ => Err(Failure::NoSuchTask(word)),
     }

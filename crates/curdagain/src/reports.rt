@@ -2,99 +2,96 @@
 use crate::failures::Failure;
 use ids::ModuleId;
 use joining::{Extent, Records, Request};
-use script::{Line, Names, Requests, request_text};
+use script::{Line, Requests, request_text};
 use std::alloc::{AllocError, Global};
+use std::fmt::Write;
 
 // The most paths that are kept, of all modules together.
 pub(crate) const ROWS: usize = 1024;
 
 // The requests one after another with what is new of each, and then the records.
 pub(crate) fn report(heap: Global, requests: &Requests) -> Result<String, Failure> {
-    let mut records = Records::new(heap, requests.modules.len() as usize, ROWS)?;
-    let mut out = String::new(heap);
+    let mut told = Transcript {
+        requests,
+        records: Records::new(heap, requests.modules.len() as usize, ROWS)?,
+        out: String::new(heap),
+    };
     for line in requests.lines.iter() {
-        join_line(heap, &mut records, requests, line, &mut out)?;
+        told.join(heap, line)?;
     }
-    write_records(heap, &records, requests, &mut out)?;
-    Ok(out)
+    told.records(heap)?;
+    Ok(told.out)
 }
 
-// The text of a module's number.
-fn module_text(modules: &Names, module: ModuleId) -> &str {
-    match modules.text(module.0) {
-        Some(text) => text,
-        None => "",
-    }
+// What has been said of requests, with the records that they were joined to.
+#[derive(Drop)]
+struct Transcript<'a> {
+    requests: &'a Requests,
+    records: Records,
+    out: String,
 }
 
-// Joins one request, and adds a line on what of it is new.
-fn join_line(
-    heap: Global,
-    records: &mut Records,
-    requests: &Requests,
-    line: &Line,
-    out: &mut String,
-) -> Result<(), Failure> {
-    let handed = match records.join(line.module, line.request) {
-        Ok(handed) => handed,
-        Err(refusal) => return Err(Failure::Refused(line.number, refusal)),
-    };
-    let number = line.number;
-    let module = module_text(&requests.modules, line.module);
-    let asked = request_text(heap, &requests.names, &line.request)?;
-    let text = match handed {
-        Some(request) => {
-            let new = request_text(heap, &requests.names, &request)?;
-            format!(in heap; "line {number}: {module} {asked}: new is {new}\n")?
+impl<'a> Transcript<'a> {
+    // Joins one request, and adds a line on what of it is new.
+    fn join(&mut self, heap: Global, line: &Line) -> Result<(), Failure> {
+        let number = line.number;
+        let handed = self
+            .records
+            .join(line.module, line.request)
+            .map_err(|refusal| Failure::Refused(number, refusal))?;
+        let asked = self.request(heap, &line.request)?;
+        let module = self.module(line.module);
+        write!(self.out, "line {number}: {module} {asked}: ")?;
+        match handed {
+            Some(request) => {
+                let new = self.request(heap, &request)?;
+                writeln!(self.out, "new is {new}")?;
+            }
+            None => writeln!(self.out, "nothing is new")?,
         }
-        None => format!(in heap; "line {number}: {module} {asked}: nothing is new\n")?,
-    };
-    out.push_str(text.as_str())?;
-    Ok(())
-}
+        Ok(())
+    }
 
-// Adds each module with its record.
-fn write_records(
-    heap: Global,
-    records: &Records,
-    requests: &Requests,
-    out: &mut String,
-) -> Result<(), AllocError> {
-    if requests.modules.len() == 0 {
-        return out.push_str("nothing is asked\n");
-    }
-    out.push_str("\nasked of each module:\n")?;
-    for number in 0..requests.modules.len() {
-        let module = ModuleId(number);
-        out.push_str(module_text(&requests.modules, module))?;
-        out.push_str(":")?;
-        match records.extent(module) {
-            Some(Extent::Full) => out.push_str(" full")?,
-            Some(Extent::Star) => out.push_str(" star")?,
-            Some(Extent::Paths) => write_paths(heap, records, &requests.names, module, out)?,
-            None => {}
+    // Adds each module with its record.
+    fn records(&mut self, heap: Global) -> Result<(), AllocError> {
+        if self.requests.modules.len() == 0 {
+            return writeln!(self.out, "nothing is asked");
         }
-        out.push_str("\n")?;
+        writeln!(self.out, "\nasked of each module:")?;
+        for module in (0..self.requests.modules.len()).map(ModuleId) {
+            let text = self.module(module);
+            write!(self.out, "{text}:")?;
+            match self.records.extent(module) {
+                Some(Extent::Full) => write!(self.out, " full")?,
+                Some(Extent::Star) => write!(self.out, " star")?,
+                Some(Extent::Paths) => self.paths(heap, module)?,
+                None => {}
+            }
+            writeln!(self.out)?;
+        }
+        Ok(())
     }
-    Ok(())
-}
 
-// Adds the kept paths of a module.
-fn write_paths(
-    heap: Global,
-    records: &Records,
-    names: &Names,
-    module: ModuleId,
-    out: &mut String,
-) -> Result<(), AllocError> {
-    for row in records.rows() {
-        if row.module == module {
-            let text = request_text(heap, names, &Request::Path(row.path))?;
-            out.push_str(" ")?;
-            out.push_str(text.as_str())?;
+    // Adds the kept paths of a module.
+    fn paths(&mut self, heap: Global, module: ModuleId) -> Result<(), AllocError> {
+        let names = &self.requests.names;
+        let rows = self.records.rows().iter();
+        for row in rows.filter(|row| row.module == module) {
+            let path = request_text(heap, names, &Request::Path(row.path))?;
+            write!(self.out, " {path}")?;
         }
+        Ok(())
     }
-    Ok(())
+
+    // The text of a module's number.
+    fn module(&self, module: ModuleId) -> &'a str {
+        self.requests.modules.text_or_empty(module.0)
+    }
+
+    // The text of a request.
+    fn request(&self, heap: Global, request: &Request) -> Result<String, AllocError> {
+        request_text(heap, &self.requests.names, request)
+    }
 }
 
 #[cfg(test)]
@@ -105,10 +102,7 @@ mod tests {
 
     fn told(heap: Global, text: &str) -> Result<String, Fail> {
         let requests = read(heap, text)?;
-        match report(heap, &requests) {
-            Ok(text) => Ok(text),
-            Err(failure) => Ok(failure.to_string(heap)?),
-        }
+        report(heap, &requests).or_else(|failure| Ok(failure.to_string(heap)?))
     }
 
     #[test]
@@ -126,7 +120,7 @@ mod tests {
         let heap = rt.alloc();
         let mut text = String::new(heap);
         for number in 0..1025u32 {
-            text.push_str(format!(in heap; "m n{number}\n")?.as_str())?;
+            write!(text, "m n{number}\n")?;
         }
         let told = told(heap, text.as_str())?;
         assert!(rt;
