@@ -5,6 +5,7 @@ use script::Fault;
 use std::alloc::{AllocError, AllocFailed};
 use std::{fmt, io};
 
+// `From` and `Display` are written out: no library of the kit but the standard ones is used.
 #[derive(Drop)]
 pub(crate) enum Failure {
     // there is no task of this name
