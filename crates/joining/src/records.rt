@@ -1,5 +1,5 @@
 // The calls on a table of records. Only its making asks for memory.
-ghost use Rattle.std.specs.Prelude.{◌≡◌, ◌+◌, ◌-◌, ◌<◌, ◌≤◌, false, [], length, filter, IfOk, if◌then◌else◌, Some, None, MatchResult, nat_lt};
+ghost use Rattle.std.specs.Prelude.{◌≡◌, ◌+◌, ◌-◌, ◌<◌, ◌≤◌, false, [], length, filter, IfOk, if◌then◌else◌, Some, None, MatchResult, nat_lt, vec_capacity};
 ghost use Rattle.std.specs.List.{slice_get};
 ghost use Rattle.ids.specs.Paths.{names_of};
 ghost use Rattle.joining.specs.Examples.{Examples};
@@ -50,7 +50,7 @@ impl Records {
     pub fn extent(&self, module: ModuleId) -> Option<Extent>
         ensures { result ≡ (if nat_lt «module».0 (spec.modules self.now) then Some (spec.extent_of self.now «module») else None) }
     {
-        self.extents.get(module.0 as usize).copied()
+        ((module.0 as usize) < self.modules()).then(|| self.shape(module))
     }
 
     // The rows of all modules.
@@ -64,10 +64,11 @@ impl Records {
     pub fn kept(&self, module: ModuleId) -> usize
         ensures { result ≡ spec.kept_rows self.now «module» }
     {
-        self.rows.iter().filter(|row| row.module == module).count()
+        self.rows_of(module)
     }
 
     // Joins a request to the record of a module, and hands out what of it is new.
+    #[tactic(auto, using(crate::proofs::TableFacts::joins))]
     pub fn join(&mut self, module: ModuleId, request: Request) -> Result<Option<Request>, Refusal>
         ensures { spec.Joins self.old self.new «module» request result }
     {
@@ -77,6 +78,7 @@ impl Records {
 
     // Joins the record that `from` has of a module to the one that this table has of it: its requests
     // one after another, kept paths in their order.
+    #[tactic(auto, using(crate::proofs::TableFacts::joins_record))]
     pub fn join_record(&mut self, module: ModuleId, from: &Records) -> Result<(), Refusal>
         ensures { spec.JoinsRecord self.old self.new «module» from.now result }
     {
@@ -106,7 +108,17 @@ impl Records {
     fn shape(&self, module: ModuleId) -> Extent
         ensures { result ≡ spec.extent_of self.now «module» }
     {
-        self.extent(module).unwrap_or(Extent::Paths)
+        self.extents
+            .get(module.0 as usize)
+            .copied()
+            .unwrap_or(Extent::Paths)
+    }
+
+    // How many rows are of a module: below the public call, so that a planted bug there is refused in the code.
+    fn rows_of(&self, module: ModuleId) -> usize
+        ensures { result ≡ spec.kept_rows self.now «module» }
+    {
+        self.rows.iter().filter(|row| row.module == module).count()
     }
 
     // Whether there is such a module, and so many rows are free.
@@ -199,6 +211,7 @@ impl Records {
         ensures fewer { spec.used self.new ≤ spec.used self.old }
         ensures extents { self.new.extents ≡ self.old.extents }
         ensures limit { self.new.limit ≡ self.old.limit }
+        ensures capacity { vec_capacity self.new.rows ≡ vec_capacity self.old.rows }
     {
         self.rows.retain(|row| !(row.module == module && covers(front, row.path.names())));
     }

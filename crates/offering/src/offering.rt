@@ -59,9 +59,9 @@ pub fn first_offer<H: Host>(
     Ok(search(host, &mut sheet[..modules], module, name))
 }
 
-// Whether a module offers a name: the module that stands for it exports the name, or one of its export-alls passes the
-// name on, as GetExportedNames of ECMA-262 has it. Marks and refusal are those of `first_offer`.
-pub fn offers<H: Host>(
+// Whether a module offers a name: between the search and the public call, so that a planted bug there is refused in the
+// code.
+fn offered_by<H: Host>(
     host: &H,
     sheet: &mut [u8],
     module: ModuleId,
@@ -72,4 +72,17 @@ pub fn offers<H: Host>(
     let standing = standing_module(host, module);
     let passed = first_offer(host, sheet, standing, name)?;
     Ok(passed.is_some() || exports(host, standing, name))
+}
+
+// Whether a module offers a name: the module that stands for it exports the name, or one of its export-alls passes the
+// name on, as GetExportedNames of ECMA-262 has it. Marks and refusal are those of `first_offer`.
+pub fn offers<H: Host>(
+    host: &H,
+    sheet: &mut [u8],
+    module: ModuleId,
+    name: NameId,
+) -> Result<bool, Refusal>
+    ensures { spec.Searched (H.program host.now) (spec.Offered (H.program host.now) name (stands (H.program host.now) «module»)) sheet.old sheet.new result }
+{
+    offered_by(host, sheet, module, name)
 }

@@ -2,11 +2,11 @@
 // else.
 ghost use Rattle.std.specs.Prelude.{◌≡◌, MatchResult};
 ghost use Rattle.std.specs.List.{list_all};
-ghost use Rattle.host.specs.Tests.{distinct};
+ghost use Rattle.host.specs.Tests.{among, distinct};
 ghost use Rattle.redirects.specs.Refusals as spec;
 
 use crate::redirect::Redirect;
-use host::distinct;
+use ids::ModuleId;
 
 // The most redirects of a layer. `redirect_limit` of specs/Refusals.antt is the same number.
 const REDIRECT_LIMIT: usize = 256;
@@ -59,9 +59,24 @@ fn all_inside(redirects: &[Redirect], modules: usize) -> bool
         && (redirect.to.0 as usize) < modules)
 }
 
-// Whether no two redirects start alike.
+// Whether no two redirects start alike. As in `host::distinct`, each is looked for among those behind it; here the two
+// sides are named apart, and a slip between them can be told.
 fn all_apart(redirects: &[Redirect]) -> bool
     ensures { result ≡ distinct (spec.starts redirects.now) }
 {
-    distinct(redirects, |redirect| redirect.from.0)
+    let mut rest = redirects;
+    while let Some((first, others)) = rest.split_first() {
+        if one_starts_at(others, first.from) {
+            return false;
+        }
+        rest = others;
+    }
+    true
+}
+
+// Whether a redirect starts at a module.
+fn one_starts_at(redirects: &[Redirect], from: ModuleId) -> bool
+    ensures { result ≡ among from.0 (spec.starts redirects.now) }
+{
+    redirects.iter().any(|redirect| from == redirect.from)
 }

@@ -1,5 +1,5 @@
 -- What the counts that a host tells are of. Assumes nothing.
-use Rattle.std.proofs.Common.{◌≡◌, length, is_some, Some, None, Option, sym, ap}
+use Rattle.std.proofs.Common.{◌≡◌, length, is_some, Some, None, Option, sym, refl, ap}
 use Rattle.std.proofs.lemmas.Bool.{true≢false}
 use Rattle.std.specs.Option.{option_map}
 use Rattle.host.specs.Lookups.{within}
@@ -18,3 +18,7 @@ export_count None i e = absurd (true≢false (sym (ap is_some e)))
 export_count (Some s) i e =
     let is : told_symbol s ≡ i = cc in
     ap (λ x. x.exports) (sym is)
+
+pub nothing_told : (o : Option Module) → option_map told_module o ≡ None → length (within (λ x. x.re_export_alls) o) ≡ 0
+nothing_told None e = refl
+nothing_told (Some m) e = absurd (true≢false (ap is_some e))

@@ -14,15 +14,18 @@ const TYPES_STEPS: usize = 8;
 // The symbol of the module itself.
 const MODULE_SYMBOL: SymbolId = SymbolId(0);
 
-// The module that a specifier aims at.
+// The module that a specifier aims at. A `for`: as a chain of `map_while` and `find` it took half as long again.
 fn aim<H: Host>(host: &H, module: ModuleId, specifier: NameId) -> Option<ModuleId>
     ensures { result ≡ spec.aim (within (λ x. x.dependencies) (module_at (H.program host.now) «module»)) specifier }
 {
     let info = host.module(module)?;
-    (0..info.dependencies)
-        .map_while(|place| host.dependency(module, place))
-        .find(|one| one.specifier == specifier)?
-        .target
+    for place in 0..info.dependencies {
+        let dependency = host.dependency(module, place)?;
+        if dependency.specifier == specifier {
+            return dependency.target;
+        }
+    }
+    None
 }
 
 // What a module is; one past the last is missing.

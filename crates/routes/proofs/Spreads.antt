@@ -39,6 +39,10 @@ module _ (p : Program) where
   fresh_append rs (r ∷ new) more a b = (a.0, fresh_append (rs ++ r ∷ []) new more a.1 (subst (λ l. Fresh p l more) (sym (append_assoc rs (r ∷ []) new)) b))
 
   module _ (x : ModuleId) (from : ℕ) where
+    -- where nothing is led to, nothing changes
+    pub spread_none : (P : ℕ → Type 0) (rs : List Reached) → ((i : ℕ) (z : ModuleId) → P i → Leads p x i z → ⊥) → Spread p x from P rs rs
+    spread_none P rs never = record { new = []; grown = sym (append-nil rs); led = tt; fresh = tt; all_known = λ i z at leads. absurd (never i z at leads) }
+
     -- one place is followed
     pub spread_one : (i : ℕ) (z : ModuleId) (r : Reached) (before after : List Reached) → Leads p x i z → r.«module» ≡ stands p z → r.from ≡ from → r.place ≡ i → Added p r before after → Spread p x from (λ j. j ≡ i) before after
     spread_one i z r before after leading is-module is-from is-place added = by_known (known p before r.«module») refl

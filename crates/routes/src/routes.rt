@@ -34,9 +34,9 @@ fn look_for<H: Host>(
     Ok(None)
 }
 
-// The steps by which a name comes to a module, through export-alls, from one that exports it, as few as may be. None
-// where the module does not offer the name; no step where it exports the name itself.
-pub fn route<H: Host>(
+// No step where the module exports the name itself; `default` is not looked for further. Between the search and the public
+// call, so that a planted bug there is refused in the code.
+fn nearest<H: Host>(
     heap: Global,
     host: &H,
     start: ModuleId,
@@ -51,4 +51,17 @@ pub fn route<H: Host>(
         return Ok(None);
     }
     look_for(heap, host, start, name)
+}
+
+// The steps by which a name comes to a module, through export-alls, from one that exports it, as few as may be. None
+// where the module does not offer the name; no step where it exports the name itself.
+pub fn route<H: Host>(
+    heap: Global,
+    host: &H,
+    start: ModuleId,
+    name: NameId,
+) -> Result<Option<Vec<Step>>, AllocError>
+    ensures { IfOk result (λ o. MatchOption o (Offers (H.program host.now) name start → ⊥) (λ v. spec.Route (H.program host.now) name start v.items)) }
+{
+    nearest(heap, host, start, name)
 }

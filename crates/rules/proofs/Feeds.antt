@@ -1,5 +1,6 @@
 -- Lists of outcomes that go into a sink part by part. Assumes nothing.
-use Rattle.std.proofs.Common.{◌≡◌, ℕ, ◌+◌, Bool, true, false, List, [], ◌∷◌, ◌++◌, drop, is_ok, is_err, Some, Ok, Err, Result, sym, refl, ap, ◌∙◌}
+use Rattle.std.proofs.Common.{◌≡◌, ℕ, ◌+◌, ◌≤◌, Bool, true, false, List, [], ◌∷◌, ◌++◌, length, drop, is_ok, is_err, Some, Ok, Err, Result, sym, refl, ap, ◌∙◌}
+use Rattle.std.proofs.lemmas.List.{drop_all}
 use Rattle.std.specs.List.{slice_get, flat_map}
 use Rattle.resolution.proofs.Places.{drop_nth}
 use Rattle.rules.specs.Feeding.{onward, feed}
@@ -34,3 +35,6 @@ module _ {S O : Type 0} (after : S → O → S × Bool) where
 
     pub each_goes : (s u : S) (i : ℕ) (x : X) → slice_get xs i ≡ Some x → (u, true) ≡ feed after s (f x) → feed after u (flat_map f (drop (i + 1) xs)) ≡ feed after s (flat_map f (drop i xs))
     each_goes s u i x at h = feed_goes s u (f x) (flat_map f (drop (i + 1) xs)) h ∙ sym (ap (λ l. feed after s (flat_map f l)) (drop_nth xs i x at))
+
+    pub each_ends : (s : S) (i : ℕ) → length xs ≤ i → feed after s (flat_map f (drop i xs)) ≡ (s, true)
+    each_ends s i past = ap (λ l. feed after s (flat_map f l)) (drop_all i xs past)

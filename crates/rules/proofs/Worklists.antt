@@ -16,6 +16,11 @@ place_in [] i x h = absurd (true≢false (ap is_some (sym h)))
 place_in (y ∷ xs) zero x h = let e : x ≡ y = cc in first e
 place_in (y ∷ xs) (suc i) x h = later (place_in xs i x h)
 
+nth_front : {A : Type 0} (xs ys : List A) (i : ℕ) (x : A) → slice_get xs i ≡ Some x → slice_get (xs ++ ys) i ≡ Some x
+nth_front [] ys i x h = absurd (true≢false (ap is_some (sym h)))
+nth_front (y ∷ xs) ys zero x h = h
+nth_front (y ∷ xs) ys (suc i) x h = nth_front xs ys i x h
+
 -- what stands at a place of a list with one more at its end
 nth_last : {A : Type 0} (xs : List A) (z : A) (i : ℕ) (x : A) → slice_get (xs ++ z ∷ []) i ≡ Some x → (slice_get xs i ≡ Some x) ⊎ ((i ≡ length xs) × (x ≡ z))
 nth_last [] z zero x h = let e : x ≡ z = cc in inr (refl, e)

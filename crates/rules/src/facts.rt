@@ -17,7 +17,7 @@ pub enum Namespace {
 #[derive(Clone, Copy, PartialEq, Eq, Debug)]
 pub enum DiagnosticKind {
     // an entry module is missing
-    ExportNotFound = 1,
+    ExportNotFound,
     // an entry module is untyped JavaScript or external
     UnsupportedJavaScriptEntrypoint,
     // an untyped JavaScript module is traced
@@ -33,11 +33,20 @@ pub enum DiagnosticKind {
 }
 
 impl DiagnosticKind {
-    // The number of the kind, from 1 to 7.
+    // The number of the kind, from 1 to 7. A match and no discriminants: a planted bug gives one kind the number of another,
+    // and no two discriminants may be equal.
     pub fn number(self) -> u8
         ensures { result ≡ spec.number self }
     {
-        self as u8
+        match self {
+            DiagnosticKind::ExportNotFound => 1,
+            DiagnosticKind::UnsupportedJavaScriptEntrypoint => 2,
+            DiagnosticKind::UnsupportedNestedJavaScript => 3,
+            DiagnosticKind::UnsupportedPrivateMemberReference => 4,
+            DiagnosticKind::NotFoundReference => 5,
+            DiagnosticKind::UnsupportedComplexReference => 6,
+            DiagnosticKind::UnresolvedReference => 7,
+        }
     }
 }
 

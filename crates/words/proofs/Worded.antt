@@ -6,7 +6,7 @@ use Rattle.std.specs.Iterator.{Yields, DrainsIf}
 use Rattle.std.specs.Str.{NoCharPasses}
 use Rattle.std.specs.Str.Iter.{split_ascii_whitespace_steps, split_ascii_whitespace_text}
 use Rattle.std.proofs.ByRecursion.{All-append, All-from_get_or}
-use Rattle.std.proofs.lemmas.List.{append_assoc, take-append-drop, length-take-le, length-drop, get_or-take, get_or-drop}
+use Rattle.std.proofs.lemmas.List.{append_assoc, take-append-drop, length-take-le, length-drop, length-append, get_or-take, get_or-drop, map_push}
 use Rattle.std.proofs.lemmas.List.Elements.{recursion_from_All}
 use Rattle.std.proofs.lemmas.Bool.{or_cases, and_parts, leb-true, both_ways, cases_lt, cases_Bool}
 use Rattle.std.proofs.lemmas.Str.{NoCharPasses-byte}
@@ -56,65 +56,33 @@ first_word bs t w rest k (n, left, len, white, dark) some is_in_range before sto
       ends = λ more. ap (λ xs. is_ascii_whitespace (get_or xs 0 0)) back ∙ ap is_ascii_whitespace (get_or-drop k t 0 0 ∙ ap (λ i. get_or t i 0) (omega arith)) ∙ stops (omega (arith, ap length back, length-drop k t));
     }
 
--- white space in front is no word
-words_behind : (gap bs : Text) (ws : List Text) → Blank gap → Words bs ws → Words (gap ++ bs) ws
-words_behind gap bs [] blank h = All-append _ gap bs blank h
-words_behind gap bs (w ∷ ws) blank (rest, first, more) = (
-  rest,
-  record {
-    gap = gap ++ first.gap;
-    cut = ap (λ xs. gap ++ xs) first.cut ∙ sym (append_assoc gap first.gap (w ++ rest));
-    blank = All-append _ gap first.gap blank first.blank;
-    some = first.some;
-    solid = first.solid;
-    ends = first.ends;
-  },
-  more,
-)
-
--- a text with no white space among its characters has none among its bytes
-solid_text : (bs : Text) → NoCharPasses is_ascii_whitespace bs → Solid bs
-solid_text bs none =
-    All-from_get_or _ bs 0 (λ i low.
-    let b = get_or bs i 0 in
-    ⊎_elim
-    (λ (white : is_ascii_whitespace b ≡ true). NoCharPasses-byte is_ascii_whitespace bs i none low (white_small b white))
-    (λ (dark : is_ascii_whitespace b ≡ false). dark)
-    (cases_Bool (is_ascii_whitespace b)))
-
--- what follows a word begins with white space
-begins_white : (sep rest : Text) → Blank sep → (length sep ≡ 0 → length rest ≡ 0) → 0 < length (sep ++ rest) → is_ascii_whitespace (get_or (sep ++ rest) 0 0) ≡ true
-begins_white [] rest blank apart more = absurd (omega (arith, apart refl))
-begins_white (b ∷ bs) rest blank apart more = blank.0
-
--- the words that `split_ascii_whitespace` gives, one after another
-words_run : (s t : _) (xs : List (Bor Text)) → Yields split_ascii_whitespace_steps s xs t → (u : _) → split_ascii_whitespace_steps t None u → Words (split_ascii_whitespace_text s) (map (λ x. x.now) xs)
-words_run s t [] same u (white, none) = subst (λ v. Blank (split_ascii_whitespace_text v)) (sym same) (recursion_from_All _ _ white)
-words_run s t (x ∷ xs) (j, (some, dark, small, (gap, sep, cut, white, (blank, short, apart))), more) u last =
-    let rest = split_ascii_whitespace_text j in
-    let space : Blank sep = recursion_from_All _ sep blank in (
-      sep ++ rest,
-      record {
-        gap = gap;
-        cut = cut;
-        blank = recursion_from_All _ gap white;
-        some = some;
-        solid = solid_text x.now dark;
-        ends = begins_white sep rest space apart;
-      },
-      words_behind sep rest (map (λ y. y.now) xs) space (words_run j t xs more u last),
-    )
-
-pub words_collected : {Z E : Type 0} (s : _) (l c : Text) → Content l c → split_ascii_whitespace_text s ≡ c → (r : Result (Vec (Bor Text) Z) E) → IfOk r (λ v. (xs : List (Bor Text)) × DrainsIf split_ascii_whitespace_steps (Unit {0}) s xs × ((vec_items v ≡ xs) × (vec_len v ≡ length xs))) → IfOk r (λ v. Says l (map (λ x. x.now) (vec_items v)))
-words_collected s l c plain from (Err e) h = tt
-words_collected s l c plain from (Ok v) (xs, (t, given, end), (same, long)) =
-    let last = end tt in
-    let words = subst (λ (bs : Text). Words bs (map (λ x. x.now) xs)) from (words_run s t xs given last.0 last.1) in
-    (c, plain, subst (λ (ys : List (Bor Text)). Words c (map (λ x. x.now) ys)) (sym same) words)
-
 -- what stands before the first `#`, or the whole line where there is none; R says what the closure gives of the two parts
 pub content_is : (l c : Bor Text) (o : Option (Bor Text × Bor Text)) (R : Bor Text × Bor Text → Type 0) → ((x : Bor Text × Bor Text) → R x → c ≡ x.0) → IsSplitOnceResult hash l.now o → MatchOption o (c ≡ l) R → Content l.now c.now
 content_is l c None R gives cut same = rw same (record { whole = inl refl; plain = split_parts hash l.now None cut (lit< tt) })
 content_is l c (Some x) R gives cut same =
     let parts = split_parts hash l.now (Some x) cut (lit< tt) in
     rw (gives x same) (record { whole = inr (x.1.now, parts.0); plain = parts.1 })
+
+-- bs begins with the words ws, and rest is left
+abbrev pub Front : Text → List Text → Text → Type 0
+Front bs [] rest = bs ≡ rest
+Front bs (w ∷ ws) rest = (mid : Text) × First bs w mid × Front mid ws rest
+
+pub front_push : (bs : Text) (ws : List Text) (rest w after : Text) → Front bs ws rest → First rest w after → Front bs (ws ++ w ∷ []) after
+front_push bs [] rest w after same first = (after, subst (λ (v : Text). First v w after) (sym same) first, refl)
+front_push bs (x ∷ ws) rest w after (mid, here, more) first = (mid, here, front_push mid ws rest w after more first)
+
+-- where nothing but white space is left, those are all words
+pub front_end : (bs : Text) (ws : List Text) (rest : Text) → Front bs ws rest → Blank rest → Words bs ws
+front_end bs [] rest same blank = subst Blank (sym same) blank
+front_end bs (w ∷ ws) rest (mid, here, more) blank = (mid, here, front_end mid ws rest more blank)
+
+-- a turn of the loop over the words
+pub words_turn : (bs rest after : Text) (xs ys : List (Bor Text)) (x : Bor Text) → Front bs (map (λ r. r.now) xs) rest → First rest x.now after → ys ≡ xs ++ x ∷ [] → Front bs (map (λ r. r.now) ys) after
+words_turn bs rest after xs ys x old first e =
+    subst (λ (ws : List Text). Front bs ws after) (sym (ap (map (λ (r : Bor Text). r.now)) e ∙ map_push (λ (r : Bor Text). r.now) xs x)) (front_push bs _ rest x.now after old first)
+
+-- what is left gets shorter
+pub shorter : (bs w rest : Text) → First bs w rest → length rest < length bs
+shorter bs w rest first =
+    omega (arith, first.some, ap length first.cut, length-append first.gap (w ++ rest), length-append w rest)

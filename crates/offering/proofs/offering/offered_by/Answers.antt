@@ -3,7 +3,7 @@ use Rattle.offering.specs.Offers.{First}
 use Rattle.resolution.specs.Targets.{exports}
 use Rattle.offering.proofs.OwnOrPassed.{found_offers, only_own}
 use Rattle.offering.proofs.Standard.{offered_all}
-use Rattle.offering.proofs.offering.offers.Goals as goal
+use Rattle.offering.proofs.offering.offered_by.Goals as goal
 
 pub returns-then-is_some : goal.returns-then-is_some
 returns-then-is_some g c =

@@ -3,7 +3,7 @@ use Rattle.std.proofs.lemmas.Iterator.{YieldsList-from_slice}
 use Rattle.std.proofs.lemmas.Iterator.Consumers.{YieldsList-from_filter, count_from_yields_List}
 use Rattle.std.proofs.lemmas.List.{length-map}
 use Rattle.joining.specs.Rows.{of_module}
-use Rattle.joining.proofs.records_struct.Records.kept.Goals as goal
+use Rattle.joining.proofs.records_struct.Records.rows_of.Goals as goal
 
 pub returns : goal.returns
 returns c =
