@@ -1,18 +1,13 @@
 -- Lemmas on the words of a text.
-use Rattle.std.proofs.Common.{◌≡◌, ℕ, ◌+◌, ◌<◌, ◌≤◌, true, false, ◌||◌, leb, List, [], ◌∷◌, ◌++◌, map, length, get_or, take, drop, Some, None, Ok, Err, Option, Result, Vec, vec_items, vec_len, IfOk, MatchOption, sym, refl, ap, ◌∙◌, subst, inl, inr, ⊎_elim, lit<, arith, Bor}
+use Rattle.std.proofs.Common.{◌≡◌, ℕ, ◌+◌, ◌<◌, ◌≤◌, true, false, ◌||◌, leb, List, [], ◌∷◌, ◌++◌, map, length, get_or, take, drop, Some, None, Option, MatchOption, sym, refl, ap, ◌∙◌, subst, inl, inr, ⊎_elim, lit<, arith, Bor}
 use Rattle.std.specs.Char.{is_ascii_whitespace}
 use Rattle.std.specs.Int.{is_in_range}
-use Rattle.std.specs.Iterator.{Yields, DrainsIf}
-use Rattle.std.specs.Str.{NoCharPasses}
-use Rattle.std.specs.Str.Iter.{split_ascii_whitespace_steps, split_ascii_whitespace_text}
-use Rattle.std.proofs.ByRecursion.{All-append, All-from_get_or}
-use Rattle.std.proofs.lemmas.List.{append_assoc, take-append-drop, length-take-le, length-drop, length-append, get_or-take, get_or-drop, map_push}
-use Rattle.std.proofs.lemmas.List.Elements.{recursion_from_All}
-use Rattle.std.proofs.lemmas.Bool.{or_cases, and_parts, leb-true, both_ways, cases_lt, cases_Bool}
-use Rattle.std.proofs.lemmas.Str.{NoCharPasses-byte}
+use Rattle.std.proofs.ByRecursion.{All-from_get_or}
+use Rattle.std.proofs.lemmas.List.{take-append-drop, length-take-le, length-drop, length-append, get_or-take, get_or-drop, map_push}
+use Rattle.std.proofs.lemmas.Bool.{or_cases, and_parts, leb-true, both_ways, cases_lt}
 use Rattle.std.proofs.lemmas.Str.Pattern.{split_parts, IsSplitOnceResult}
 use Rattle.words.specs.Texts.{Text}
-use Rattle.words.specs.Words.{Blank, Solid, First, Words, Says, Content, hash}
+use Rattle.words.specs.Words.{Blank, Solid, First, Words, Content, hash}
 
 -- white space is ASCII
 pub white_small : (b : ℕ) → is_ascii_whitespace b ≡ true → b < 128
